@@ -1,0 +1,20 @@
+-- What the implementations in memory hold.
+use Rattle.std.specs.Prelude.{ℕ, List, drop}
+use Rattle.pm_base.specs.declared.source.MemSource.{MemSource}
+use Rattle.pm_base.specs.declared.sink.MemSink.{MemSink}
+
+-- The bytes that a source has left.
+abbrev pub source_left : MemSource → List ℕ
+source_left s = drop s.at s.bytes.items
+
+-- How often a source has failed.
+abbrev pub source_faults : MemSource → ℕ
+source_faults s = s.faults
+
+-- The bytes that were written to a sink.
+abbrev pub sink_written : MemSink → List ℕ
+sink_written s = s.bytes.items
+
+-- How often a sink has failed.
+abbrev pub sink_faults : MemSink → ℕ
+sink_faults s = s.faults

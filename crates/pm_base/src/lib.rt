@@ -1,0 +1,22 @@
+//! What every layer stands on: traits of the outside, buffered input, byte strings, moments, classes and refusal codes.
+#![tactic(auto)]
+
+mod blob;
+mod class;
+mod code;
+mod moment;
+mod names;
+mod outside;
+mod sink;
+mod source;
+mod text;
+
+pub use blob::Blob;
+pub use class::Class;
+pub use code::Code;
+pub use moment::{LAST_MOMENT, TICK_SECONDS, tick};
+pub use names::{is_dn_class, is_dn_id, is_job_id, is_measure_name};
+pub use outside::{Failed, Sink, Source};
+pub use sink::MemSink;
+pub use source::MemSource;
+pub use text::Text;

@@ -1,0 +1,81 @@
+//! A source in memory, of whose calls some fail.
+ghost use Rattle.std.specs.Prelude.{◌≡◌, ◌≤◌, ℕ, Option, Some, Ok, [], List, length, take, drop, min, IfOk};
+
+use crate::{Failed, Source};
+use std::alloc::{AllocError, Global};
+
+/// A source of bytes that are given when it is made. Its calls are numbered from 1, and those whose numbers were given
+/// fail. No call takes memory.
+#[derive(Debug, Drop)]
+pub struct MemSource {
+    bytes: Vec<u8>,
+    at: usize,
+    fails: Vec<u64>,
+    calls: u64,
+    faults: u64,
+    ghost in_range: { at ≤ length bytes.items },
+}
+
+impl MemSource {
+    ghost use Rattle.pm_base.specs.Memory.{source_left, source_faults};
+
+    /// A source with these bytes, of whose calls those of these numbers fail, counted from 1.
+    pub fn new(alloc: Global, bytes: &[u8], fails: &[u64]) -> Result<MemSource, AllocError>
+        ensures { IfOk result (λ source. (source_left source ≡ bytes.now) × (source_faults source ≡ 0)) }
+    {
+        Ok(MemSource {
+            bytes: Vec::from_slice(alloc, bytes)?,
+            at: 0,
+            fails: Vec::from_slice(alloc, fails)?,
+            calls: 0,
+            faults: 0,
+        })
+    }
+
+    /// The bytes that are left.
+    pub fn left(&self) -> &[u8]
+        ensures { result.now ≡ source_left self.now }
+    {
+        &self.bytes[self.at..]
+    }
+
+    /// How often it has failed.
+    pub fn faults(&self) -> u64
+        ensures { result ≡ source_faults self.now }
+    {
+        self.faults
+    }
+}
+
+impl Source for MemSource {
+    ghost IsTold = { Unit {0} };
+
+    ghost left = { λ s. drop s.at s.bytes.items };
+
+    ghost faults = { λ s. s.faults };
+
+    fn read(&mut self, buf: &mut [u8]) -> Result<usize, Failed> {
+        self.calls = self.calls.saturating_add(1);
+        if self.fails.contains(&self.calls) {
+            self.faults = self.faults.saturating_add(1);
+            return Err(Failed);
+        }
+        let count = copy_front(&self.bytes[self.at..], buf);
+        self.at += count;
+        Ok(count)
+    }
+}
+
+/// Copies the first of the bytes to the front of the buffer, as many as it has room for, and answers how many.
+pub fn copy_front(bytes: &[u8], buf: &mut [u8]) -> usize
+    ensures count { result ≡ min (length bytes.now) (length buf.old) }
+    ensures moved { take result buf.new ≡ take result bytes.now }
+{
+    let count = if bytes.len() < buf.len() {
+        bytes.len()
+    } else {
+        buf.len()
+    };
+    buf[..count].copy_from_slice(&bytes[..count]);
+    count
+}
