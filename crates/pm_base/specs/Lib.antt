@@ -1,5 +1,8 @@
 pub mod Causes
 pub mod Outside
+pub mod Line
+pub mod Feed
+pub mod FeedFields
 pub mod Moment
 pub mod Class
 pub mod Code

@@ -4,6 +4,9 @@
 mod blob;
 mod class;
 mod code;
+mod copying;
+mod feed;
+mod line;
 mod moment;
 mod names;
 mod outside;
@@ -14,6 +17,8 @@ mod text;
 pub use blob::Blob;
 pub use class::Class;
 pub use code::Code;
+pub use feed::{Feed, FeedError};
+pub use line::Line;
 pub use moment::{LAST_MOMENT, TICK_SECONDS, tick};
 pub use names::{is_dn_class, is_dn_id, is_job_id, is_measure_name};
 pub use outside::{Failed, Sink, Source};
