@@ -1,2 +1,4 @@
 pub mod LineLemmas
 pub mod FeedLemmas
+pub mod NumberLemmas
+pub mod LinesLemmas

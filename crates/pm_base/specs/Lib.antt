@@ -4,6 +4,7 @@ pub mod Line
 pub mod Feed
 pub mod FeedFields
 pub mod Moment
+pub mod Number
 pub mod Class
 pub mod Code
 pub mod Names

@@ -1,5 +1,6 @@
 -- Lines of bytes: each ends at a line feed, which is the byte 10 (this project's own).
-use Rattle.std.specs.Prelude.{◌≡◌, ◌≢◌, ◌⊎◌, ◌+◌, ◌<◌, ◌≤◌, ℕ, Bool, true, false, List, [], length, take, slice_index, All}
+use Rattle.std.specs.Prelude.{◌≡◌, ◌≢◌, ◌⊎◌, ◌+◌, ◌<◌, ◌≤◌, ℕ, Bool, true, false, List, [], length, take, slice_index, All, ◌∷◌, ◌==◌, if◌then◌else◌}
+use Rattle.std.specs.List.{slice_split}
 use Rattle.pm_base.specs.declared.line.Found.{Found}
 use Rattle.pm_base.specs.declared.line.Found.TheVariants as found
 
@@ -25,3 +26,13 @@ FindsLine held ended (found.Line n taken) = IsLineOf held ended n taken
 FindsLine held ended found.Long = (2048 < length held) × HasNoLineFeed (take 2049 held)
 FindsLine held ended found.End = (held ≡ []) × (ended ≡ true)
 FindsLine held ended found.Unknown = HasNoLine held × (ended ≡ false)
+
+-- The lines among parts that line feeds part: behind the last line feed, nothing is no line.
+abbrev pub lines_of_parts : List (List ℕ) → List (List ℕ)
+lines_of_parts [] = []
+lines_of_parts (last ∷ []) = if length last == 0 then [] else last ∷ []
+lines_of_parts (line ∷ next ∷ more) = line ∷ lines_of_parts (next ∷ more)
+
+-- The lines of the bytes, without their line feeds. The last one may lack it.
+abbrev pub lines_of : List ℕ → List (List ℕ)
+lines_of bytes = lines_of_parts (slice_split (λ b. b == 10) bytes)

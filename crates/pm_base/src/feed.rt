@@ -3,7 +3,7 @@
 //! A feed reads a source through a buffer of 65,536 bytes. It doesn't hold the source: each call that reads is handed it.
 //! A line ends at a line feed, and the last one may lack it. A feed takes 1,099,511,627,776 bytes from its source at the
 //! most, so every loop over a feed ends.
-ghost use Rattle.std.specs.Prelude.{◌≡◌, ◌+◌, ◌-◌, ◌^◌, ◌<◌, ◌≤◌, ◌⊎◌, ◌↔◌, ℕ, List, true, false, [], ◌++◌, length, vec_len, take, slice_range, min, IfOk, IfErr, OnOk, OnErr, IfSome, IfNone, OnSome, IsErrOf, MatchResult, MatchOption, Some, Err};
+ghost use Rattle.std.specs.Prelude.{◌≡◌, ◌+◌, ◌-◌, ◌^◌, ◌<◌, ◌≤◌, ◌⊎◌, ◌↔◌, ℕ, List, true, false, [], ◌++◌, length, vec_len, take, slice_range, min, IfOk, IfErr, OnOk, OnErr, IfSome, IfNone, OnSome, IsErrOf, MatchResult, MatchOption, Some, Ok, Err};
 ghost use Rattle.std.specs.Io.{ReadsAtMost};
 ghost use Rattle.pm_base.specs.Causes.{Rose, HasCause};
 ghost use Rattle.pm_base.specs.Outside.{Gives};
@@ -98,6 +98,10 @@ impl Feed {
         ensures given { S.IsTold → self.new.given + length (left_to self.new (S.left source.new)) ≡ self.old.given + length (left_to self.old (S.left source.old)) }
         ensures knows_end { S.IsTold → KnowsEnd self.new (S.left source.new) }
 
+        // Of any source: each line takes a byte at least, and all of them at most the limit.
+        ensures takes { (n : ℕ) → result ≡ Ok (Line.Whole n) → self.old.given < self.new.given }
+        ensures most { self.new.given ≤ MOST_READ }
+
         // The limit comes exactly where it is met.
         ensures limit { S.IsTold → result ≡ Err FeedError.Limit → MeetsLimit self.old (S.left source.old) }
         ensures within { S.IsTold → OnOk result (MeetsLimit self.old (S.left source.old) → ⊥) }
@@ -183,6 +187,7 @@ impl Feed {
         ensures given { self.new.given + length self.new.buffered ≡ self.old.given + length self.old.buffered }
         ensures ended { self.new.ended ≡ self.old.ended }
         ensures within { self.old.given + length self.old.buffered ≤ MOST_READ }
+        ensures takes { (n : ℕ) → result ≡ Some (Line.Whole n) → self.old.given < self.new.given }
     {
         self.line = 0;
         self.stop = 0;
