@@ -1,0 +1,14 @@
+//! Measurements: their kinds and reductions, the catalogue that names them, and the cells that their values are folded into.
+#![tactic(auto)]
+
+mod cell;
+mod def;
+mod error;
+mod kind;
+mod method;
+mod words;
+
+pub use cell::Cell;
+pub use def::Def;
+pub use error::MeasError;
+pub use kind::{Kind, Reduce};
