@@ -6,6 +6,7 @@ use Rattle.std.proofs.Math.Dec.{eqb}
 use Rattle.std.specs.List.{slice_split, onto_first, All}
 use Rattle.pm_base.specs.Line.{HasNoLineFeed, lines_of, lines_of_parts}
 use Rattle.pm_base.specs.Feed.{IsFirstLine}
+use Rattle.pm_base.proofs.PiecesLemmas.{some_piece}
 
 -- a byte that is no line feed doesn't pass the test
 fails : (b : ℕ) → b ≢ 10 → eqb b 10 ≡ false
@@ -14,20 +15,10 @@ fails b other = elim (eqb_tells b 10) [ inl same ↦ absurd (other same.1) | inr
 all_fail : (bytes : List ℕ) → HasNoLineFeed bytes → All (λ b. eqb b 10 ≡ false) bytes
 all_fail bytes none k d lt = fails (get_or bytes k d) (none k d lt)
 
--- there is always a part
-some_part : (bytes : List ℕ) → (first : List ℕ) × (more : List (List ℕ)) × (slice_split (λ b. eqb b 10) bytes ≡ first ∷ more)
-some_part [] = ([], [], refl)
-some_part (b ∷ bytes) =
-    let parts = some_part bytes in
-    elim (eqb_tells b 10) [
-      | inl same ↦ ([], slice_split (λ b. eqb b 10) bytes, ap (λ (v : Bool). cond v ([] ∷ slice_split (λ b. eqb b 10) bytes) (onto_first b (slice_split (λ b. eqb b 10) bytes))) same.0)
-      | inr differs ↦ (b ∷ parts.0, parts.1, slice_split-cons_no (λ b. eqb b 10) b bytes differs.0 ∙ ap (λ (l : List (List ℕ)). onto_first b l) parts.2)
-    ]
-
 -- A line before a line feed comes first.
 pub lines_of-first : (line after : List ℕ) → HasNoLineFeed line → lines_of (line ++ 10 ∷ after) ≡ line ∷ lines_of after
 lines_of-first line after none =
-    let some = some_part after in
+    let some = some_piece 10 after in
     ap lines_of_parts (slice_split_at (λ b. eqb b 10) line 10 after (all_fail line none) refl ∙ ap (λ (l : List (List ℕ)). line ∷ l) some.2)
     ∙ ap (λ (l : List (List ℕ)). line ∷ lines_of_parts l) (sym some.2)
 
@@ -52,7 +43,7 @@ lines_of-next before line after next = elim next.split [
 
 -- where none of the first n bytes is a line feed, the first part has all of them
 long_part : (n : ℕ) (bytes : List ℕ) → HasNoLineFeed (take n bytes) → n ≤ length bytes → (first : List ℕ) × (more : List (List ℕ)) × (slice_split (λ b. eqb b 10) bytes ≡ first ∷ more) × (n ≤ length first)
-long_part zero bytes none within = let some = some_part bytes in (some.0, some.1, some.2, omega arith)
+long_part zero bytes none within = let some = some_piece 10 bytes in (some.0, some.1, some.2, omega arith)
 long_part (suc n) [] none within = absurd (omega (arith, within))
 long_part (suc n) (b ∷ bytes) none within =
     let later : HasNoLineFeed (take n bytes) = λ k d lt. none (suc k) d (omega (arith, lt)) in

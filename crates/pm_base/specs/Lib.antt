@@ -1,5 +1,6 @@
 pub mod Causes
 pub mod Outside
+pub mod Pieces
 pub mod Line
 pub mod Feed
 pub mod FeedFields

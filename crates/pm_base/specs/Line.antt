@@ -1,6 +1,6 @@
 -- Lines of bytes: each ends at a line feed, which is the byte 10 (this project's own).
 use Rattle.std.specs.Prelude.{◌≡◌, ◌≢◌, ◌⊎◌, ◌+◌, ◌<◌, ◌≤◌, ℕ, Bool, true, false, List, [], length, take, slice_index, All, ◌∷◌, ◌==◌, if◌then◌else◌}
-use Rattle.std.specs.List.{slice_split}
+use Rattle.pm_base.specs.Pieces.{pieces_of}
 use Rattle.pm_base.specs.declared.line.Found.{Found}
 use Rattle.pm_base.specs.declared.line.Found.TheVariants as found
 
@@ -35,4 +35,4 @@ lines_of_parts (line ∷ next ∷ more) = line ∷ lines_of_parts (next ∷ more
 
 -- The lines of the bytes, without their line feeds. The last one may lack it.
 abbrev pub lines_of : List ℕ → List (List ℕ)
-lines_of bytes = lines_of_parts (slice_split (λ b. b == 10) bytes)
+lines_of bytes = lines_of_parts (pieces_of 10 bytes)
