@@ -1,11 +1,10 @@
 -- What a tally keeps, with one more event.
-use Rattle.std.proofs.Common.{◌≡◌, ◌⊎◌, ◌+◌, ◌<◌, ◌≤◌, ℕ, Bool, cond, List, [], ◌∷◌, ◌++◌, length, map, filter, Option, Some, None, inl, inr, refl, sym, ◌∙◌, ap, subst, arith}
+use Rattle.std.proofs.Common.{◌≡◌, ◌<◌, ◌≤◌, ℕ, Bool, cond, List, [], ◌∷◌, ◌++◌, length, map, filter, Some, None, inl, inr, refl, sym, ◌∙◌, ap, subst, arith}
 use Rattle.std.proofs.lemmas.Bool.{le-ltb, lt-leb}
 use Rattle.std.proofs.lemmas.Bool.Decides.{eqb_tells}
-use Rattle.std.proofs.Math.Dec.{eqb, ltb, leb}
+use Rattle.std.proofs.Math.Dec.{eqb, leb}
 use Rattle.std.specs.List.{All}
 use Rattle.pm_base.specs.Moment.{tick_of}
-use Rattle.pm_base.specs.declared.code.Code.{Code}
 use Rattle.pm_base.specs.declared.code.Code.TheVariants.{E4, E5}
 use Rattle.pm_meas.specs.Cell.{cell_of}
 use Rattle.pm_model.specs.Event.{order_refusal, last_moment, events_in, values_in}
@@ -20,7 +19,7 @@ begins old new events e counts later slot moment registered cell =
     let none : events_in events (tick_of e.moment) ≡ [] = events_in-none events old.moment (tick_of e.moment) counts.ordered later in
     let in_tick : events_in (events ++ e ∷ []) (tick_of e.moment) ≡ e ∷ [] = events_in-same events e (tick_of e.moment) refl ∙ ap (λ (l : List Event). l ++ e ∷ []) none in
     let values : values_in (events ++ e ∷ []) 0 (tick_of e.moment) ≡ e.value ∷ [] =
-      values_in-same events e 0 (tick_of e.moment) refl slot ∙ ap (λ (l : List Event). map (λ x. x.value) (filter (λ x. eqb x.slot 0) l) ++ e.value ∷ []) none in
+    values_in-same events e 0 (tick_of e.moment) refl slot ∙ ap (λ (l : List Event). map (λ x. x.value) (filter (λ x. eqb x.slot 0) l) ++ e.value ∷ []) none in
     let same : e.moment ≡ new.moment = sym moment in record {
       moment = moment ∙ sym (last_moment-more events e);
       cell = subst (λ (m : ℕ). new.cell ≡ cell_of (values_in (events ++ e ∷ []) 0 (tick_of m))) same (cell ∙ ap cell_of (sym values));

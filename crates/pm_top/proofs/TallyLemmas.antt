@@ -1,5 +1,5 @@
 -- The lines of a tally, with one more event.
-use Rattle.std.proofs.Common.{◌≡◌, ◌≢◌, ◌⊎◌, ◌+◌, ◌-◌, ◌*◌, ◌<◌, ◌≤◌, ℕ, zero, suc, List, [], ◌∷◌, ◌++◌, length, map, filter, refl, sym, ◌∙◌, ap, subst, arith, append_assoc}
+use Rattle.std.proofs.Common.{◌≡◌, ◌+◌, ◌-◌, ◌<◌, ◌≤◌, ℕ, zero, suc, List, [], ◌∷◌, ◌++◌, map, filter, refl, sym, ◌∙◌, ap, arith}
 use Rattle.std.proofs.lemmas.List.{append-nil}
 use Rattle.std.proofs.lemmas.Grind.{flat_map-append}
 use Rattle.std.proofs.Math.Dec.{eqb}
@@ -57,7 +57,7 @@ tick_lines-same slots events more tick same = ap (lines_of_events slots tick) sa
 pub lines_before-more : (slots : List Slot) (events : List Event) (e : Event) (tick : ℕ) → tick ≤ tick_of e.moment → lines_before slots (events ++ e ∷ []) tick ≡ lines_before slots events tick
 lines_before-more slots events e tick past =
     flat_map_same (tick_lines slots (events ++ e ∷ [])) (tick_lines slots events) 0 tick
-      (λ k low high. tick_lines-same slots events (events ++ e ∷ []) k (events_in-other events e k (λ is. omega (arith, high, past, is))))
+    (λ k low high. tick_lines-same slots events (events ++ e ∷ []) k (events_in-other events e k (λ is. omega (arith, high, past, is))))
 
 -- The lines of the ticks before a later one: those before the tick of the last event, and its own.
 pub lines_before-later : (slots : List Slot) (events : List Event) (moment tick : ℕ) → All (λ e. e.moment ≤ moment) events → tick_of moment < tick → lines_before slots events tick ≡ lines_before slots events (tick_of moment) ++ tick_lines slots events (tick_of moment)
@@ -66,12 +66,12 @@ lines_before-later slots events moment tick ordered later =
     let rest = tick - (tick_of moment + 1) in
     let parts : tick ≡ tick_of moment + suc rest = omega (arith, later) in
     let own : range_with_len (0 + tick_of moment) (suc rest) ≡ tick_of moment ∷ range_with_len (tick_of moment + 1) rest =
-      let start : 0 + tick_of moment ≡ tick_of moment = omega arith in ap (λ (b : ℕ). range_with_len b (suc rest)) start in
+    let start : 0 + tick_of moment ≡ tick_of moment = omega arith in ap (λ (b : ℕ). range_with_len b (suc rest)) start in
     ap (λ (m : ℕ). flat_map f (range_with_len 0 m)) parts
     ∙ ap (flat_map f) (range_split 0 (tick_of moment) (suc rest) ∙ ap (λ (l : List ℕ). range_with_len 0 (tick_of moment) ++ l) own)
     ∙ flat_map-append f (range_with_len 0 (tick_of moment)) (tick_of moment ∷ range_with_len (tick_of moment + 1) rest)
     ∙ ap (λ (l : List ℕ). flat_map f (range_with_len 0 (tick_of moment)) ++ (f (tick_of moment) ++ l))
-        (flat_map_none f (tick_of moment + 1) rest (λ k low high. tick_lines-none slots events k (events_in-none events moment k ordered (omega (arith, low)))))
+    (flat_map_none f (tick_of moment + 1) rest (λ k low high. tick_lines-none slots events k (events_in-none events moment k ordered (omega (arith, low)))))
     ∙ ap (λ (l : List ℕ). flat_map f (range_with_len 0 (tick_of moment)) ++ l) (append-nil (f (tick_of moment)))
 
 -- The ended lines behind one more event of the same tick.

@@ -4,3 +4,6 @@ pub mod Tally
 pub mod Outcome
 pub mod Counting
 pub mod Taking
+pub mod Finishing
+pub mod Inventory
+pub mod Words

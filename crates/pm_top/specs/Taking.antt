@@ -7,8 +7,16 @@ use Rattle.pm_top.specs.Slots.{the_slots}
 use Rattle.pm_top.specs.Tally.{ended_lines, tick_lines}
 use Rattle.pm_top.specs.Counting.{Counts}
 use Rattle.pm_top.specs.declared.counting.Counting.{Counting}
+use Rattle.pm_top.specs.declared.status.Status.{Status}
+use Rattle.pm_top.specs.declared.status.Status.TheVariants as status
 use Rattle.pm_top.specs.declared.taking.Stop.{Stop}
 use Rattle.pm_top.specs.declared.taking.Stop.TheVariants.{Refused, WriteFault, Memory}
+
+-- How a tally ends that stops at the line of this number.
+abbrev pub stop_status : ℕ → Stop → Status
+stop_status place (Refused code) = status.BadInput place code
+stop_status place WriteFault = status.WriteFault
+stop_status place Memory = status.Memory
 
 -- A good line is counted behind the earlier events, and another one is refused.
 abbrev pub TakesLine : List Event → List ℕ → Result Unit Stop → Counting → Type 0

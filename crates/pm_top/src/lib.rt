@@ -2,9 +2,14 @@
 #![tactic(auto)]
 
 mod counting;
+mod inventory;
 mod lines;
 mod slot;
 mod status;
 mod taking;
+mod tallying;
+mod top;
 
 pub use status::Status;
+pub use tallying::tally;
+pub use top::pmd;

@@ -24,7 +24,11 @@ pub enum Fault {
 }
 
 /// Writes the lines of the tick that is counted, by a text of which the room is used again.
-pub fn write_tick<K: Sink>(counting: &Counting, text: &mut Vec<u8>, output: &mut K) -> Result<(), Fault>
+pub fn write_tick<K: Sink>(
+    counting: &Counting,
+    text: &mut Vec<u8>,
+    output: &mut K,
+) -> Result<(), Fault>
     ensures written { K.IsTold → (events : List Event) → Counts counting.now events → let lines = tick_lines the_slots events (tick_of counting.now.moment) in MatchResult result (λ _. K.written output.new ≡ K.written output.old ++ lines) (λ _. (bytes : ℕ) × (K.written output.new ≡ K.written output.old ++ take bytes lines)) }
     ensures fault { result ≡ Err Fault.Write → Rose (K.faults output.old) (K.faults output.new) }
     ensures later { K.faults output.old ≤ K.faults output.new }
