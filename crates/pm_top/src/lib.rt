@@ -6,6 +6,7 @@ mod inventory;
 mod lines;
 mod slot;
 mod status;
+mod status_text;
 mod taking;
 mod tallying;
 mod top;
