@@ -1,0 +1,5 @@
+pub mod Name
+pub mod Refusal
+pub mod Containment
+pub use Rattle.pm_base.specs.Class
+pub use Rattle.pm_base.specs.Names
