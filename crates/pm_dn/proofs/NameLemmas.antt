@@ -70,6 +70,10 @@ stages false c (Some code) none = cc
 stages false true None none = cc
 stages false false None none = (refl, refl, refl)
 
+-- no part of an unbroken text breaks a rule
+pub parts-none : (bytes : List ℕ) → name_refusal bytes ≡ None → first_code (map part_refusal (pieces bytes)) ≡ None
+parts-none bytes none = (stages (ltb 256 (length bytes)) (ltb 8 (length (pieces bytes))) (first_code (map part_refusal (pieces bytes))) none).1
+
 -- a text has at least one piece, and at most one more than bytes
 pub length-pieces : (bytes : List ℕ) → (1 ≤ length (pieces bytes)) × (length (pieces bytes) ≤ length bytes + 1)
 length-pieces bytes =

@@ -1,11 +1,14 @@
 //! The containment of managed objects, of TS 28.541.
-ghost use Rattle.std.specs.Prelude.{◌≡◌};
+ghost use Rattle.std.specs.Prelude.{◌≡◌, None};
 ghost use Rattle.std.specs.Str.{bytes_eq};
 ghost use Rattle.pm_base.specs.Class.{class_name};
 ghost use Rattle.pm_dn.specs.Name.{part_of};
-ghost use Rattle.pm_dn.specs.Containment.{path_to, has_path_to, class_of};
+ghost use Rattle.pm_dn.specs.Refusal.{name_refusal};
+ghost use Rattle.pm_dn.specs.Tree.{is_under};
+ghost use Rattle.pm_dn.specs.Containment.{path_to, has_path_to, class_of, superior_text};
 
 use crate::pieces::{Pieces, cut_at};
+use memchr::memrchr;
 use pm_base::Class;
 
 /// The classes from the root down to this class.
@@ -38,7 +41,7 @@ fn is_of_class(piece: &[u8], class: Class) -> bool
     class_word(piece) == class.name().as_bytes()
 }
 
-fn has_path_to(class: Class, name: &[u8]) -> bool
+pub(crate) fn has_path_to(class: Class, name: &[u8]) -> bool
     ensures { result ≡ has_path_to class name.now }
 {
     let mut pieces = Pieces::of(name);
@@ -68,4 +71,28 @@ pub(crate) fn class_of(name: &[u8]) -> Option<Class>
         .iter()
         .copied()
         .find(|class| has_path_to(*class, name))
+}
+
+/// The text of the name's superior, which is empty where the name has one part.
+pub(crate) fn superior(name: &[u8]) -> &[u8]
+    requires { name_refusal name.now ≡ None }
+    ensures { result.now ≡ superior_text name.now }
+{
+    match memrchr(b',', name) {
+        Some(comma) => &name[..comma],
+        None => &[],
+    }
+}
+
+/// Whether the parts of the name begin with those of the root's name. Of the bytes it asks for a comma behind those of the
+/// root, or else `NRCellCU=7` would stand above `NRCellCU=70`.
+pub(crate) fn is_under(root: &[u8], name: &[u8]) -> bool
+    requires root_named { name_refusal root.now ≡ None }
+    requires named { name_refusal name.now ≡ None }
+    ensures { result ≡ is_under root.now name.now }
+{
+    match name.strip_prefix(root) {
+        Some(rest) => rest.is_empty() || rest[0] == b',',
+        None => false,
+    }
 }

@@ -4,9 +4,13 @@
 mod containment;
 mod dn;
 mod error;
+mod object;
 mod pieces;
+mod places;
 mod refusal;
+mod tree;
 
 pub use dn::Dn;
-pub use error::DnError;
+pub use error::{DnError, TreeError};
 pub use refusal::{NAME_BYTES, NAME_PARTS, WORD_BYTES};
+pub use tree::{OBJECTS, Tree};

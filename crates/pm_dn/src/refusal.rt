@@ -37,7 +37,7 @@ fn is_of_id_alphabet(id: &[u8]) -> bool
 }
 
 /// The first rule that one part breaks.
-fn part_refusal(piece: &[u8]) -> Option<DnError>
+pub(crate) fn part_refusal(piece: &[u8]) -> Option<DnError>
     ensures { result ≡ part_refusal piece.now }
 {
     if piece.is_empty() {
