@@ -1,6 +1,7 @@
 -- Lists cut at a byte.
 use Rattle.std.proofs.Common.{one-add, ◌≡◌, ◌∙◌, ℕ, ◌+◌, ◌<◌, ◌≤◌, Bool, true, false, List, [], ◌∷◌, ◌++◌, ◌||◌, suc, cond, not, Option, Some, None, length, take, drop, get_or, refl, sym, ap, eqb, rules, arith}
 use Rattle.std.specs.List.{list_any, position_or_len, before_first, after_first, slice_split, All}
+use Rattle.std.proofs.Math.ListN.{drop_of_length-le}
 use Rattle.std.proofs.lemmas.List.Elements.{All-from_get_or, All-nil, All-cons}
 use Rattle.std.proofs.lemmas.List.Folds.{list_any_none, list_any_at, Any-from_list_any}
 use Rattle.std.proofs.lemmas.Bool.{false_from_ne_true}
@@ -68,3 +69,15 @@ before_first-all p (x ∷ xs) none =
     let here : p x ≡ false = lacks-head (p x) (list_any p xs) none in
     let step : take (1 + position_or_len p xs) (x ∷ xs) ≡ x ∷ take (position_or_len p xs) xs = ap (λ n. take n (x ∷ xs)) (one-add (position_or_len p xs)) in
     rw here (step ∙ ap (λ l. x ∷ l) (before_first-all p xs (lacks-tail (p x) (list_any p xs) none)))
+
+position-all : (here any : Bool) (n m : ℕ) → (any ≡ false → n ≡ m) → (here || any) ≡ false → cond (not here) (1 + n) 0 ≡ suc m
+position-all true any n m later none = cc
+position-all false any n m later none = let same : n ≡ m = later none in omega arith
+
+position_or_len-all : {X : Type 0} (p : X → Bool) (xs : List X) → list_any p xs ≡ false → position_or_len p xs ≡ length xs
+position_or_len-all p [] none = refl
+position_or_len-all p (x ∷ xs) none = position-all (p x) (list_any p xs) _ _ (position_or_len-all p xs) none
+
+-- where no element passes, nothing stands behind the first that does
+pub after_first-none : {X : Type 0} (p : X → Bool) (xs : List X) → list_any p xs ≡ false → after_first p xs ≡ []
+after_first-none p xs none = drop_of_length-le xs (omega (arith, position_or_len-all p xs none))

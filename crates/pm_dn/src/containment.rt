@@ -25,7 +25,7 @@ fn path_to(class: Class) -> &'static [Class]
 }
 
 /// The class that stands in a part.
-fn class_word(piece: &[u8]) -> &[u8]
+pub(crate) fn class_word(piece: &[u8]) -> &[u8]
     ensures { result.now ≡ (part_of piece.now).class }
 {
     match cut_at(piece, b'=') {

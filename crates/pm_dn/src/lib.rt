@@ -7,7 +7,10 @@ mod error;
 mod object;
 mod pieces;
 mod places;
+pub mod plain;
 mod refusal;
+#[cfg(test)]
+mod tests;
 mod tree;
 
 pub use dn::Dn;
