@@ -1,5 +1,5 @@
 -- The objects of a tree, seen as the texts of their names.
-use Rattle.std.proofs.Common.{◌≡◌, ◌∙◌, ℕ, ◌<◌, List, [], ◌∷◌, ◌++◌, None, length, get_or, map, sym, ap, subst, rules, arith}
+use Rattle.std.proofs.Common.{◌≡◌, ◌∙◌, ℕ, ◌<◌, List, [], ◌∷◌, ◌++◌, None, length, get_or, map, sym, ap, subst}
 use Rattle.std.proofs.lemmas.List.{length-map, get_or-map, map-append}
 use Rattle.pm_dn.specs.Tree.{IsTree, StandsAt, add_refusal}
 use Rattle.pm_dn.specs.declared.object.Object.{Object}

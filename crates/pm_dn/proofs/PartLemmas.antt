@@ -1,15 +1,14 @@
 -- The rules of one part, and the part that a piece spells.
-use Rattle.std.proofs.Common.{◌≡◌, ◌∙◌, ℕ, ◌+◌, ◌<◌, ◌≤◌, Bool, true, false, List, [], ◌∷◌, ◌++◌, ◌||◌, ◌&&◌, ◌⊎◌, suc, cond, not, Option, Some, None, length, take, drop, get_or, refl, sym, ap, eqb, ltb, rules, arith}
-use Rattle.std.specs.Prelude.{IsTrue}
-use Rattle.std.specs.List.{list_any, list_all, position_or_len, before_first, after_first, All, AllPass}
+use Rattle.std.proofs.Common.{◌≡◌, ◌∙◌, ℕ, ◌+◌, ◌≤◌, Bool, true, false, List, [], ◌∷◌, ◌++◌, ◌||◌, ◌&&◌, not, None, length, drop, get_or, refl, sym, ap, eqb, ltb, arith}
+use Rattle.std.specs.List.{list_any, list_all, position_or_len, before_first, after_first, All}
 use Rattle.std.specs.Char.{is_ascii_alphabetic, is_ascii_alphanumeric}
 use Rattle.std.proofs.lemmas.Bool.{not-false, not_from_true, ltb-false, le-ltb}
 use Rattle.std.proofs.lemmas.List.{take_at, drop_at, length-append, append_assoc}
-use Rattle.std.proofs.lemmas.List.Elements.{All-cons, All-head, All-tail, All-nil, All-append, All-weaker}
+use Rattle.std.proofs.lemmas.List.Elements.{All-head, All-tail, All-weaker}
 use Rattle.std.proofs.lemmas.List.Sums.{split_at_first, passes_at_first, AllPass-from_list_all, list_all-from_AllPass}
 use Rattle.std.proofs.lemmas.List.Folds.{list_any-append}
 use Rattle.std.proofs.lemmas.Bool.Decides.{nat_tests}
-use Rattle.pm_base.specs.Names.{IsDnClass, IsDnId, is_name_char}
+use Rattle.pm_base.specs.Names.{is_name_char}
 use Rattle.pm_dn.specs.Name.{Part, IsPart, part_of, part_text, is_equals}
 use Rattle.pm_dn.specs.Refusal.{when_broken, first_code, part_refusal, is_of_class_alphabet, is_of_id_alphabet}
 use Rattle.pm_dn.specs.declared.error.DnError.TheVariants.{N1, N2, N3, N4}

@@ -1,9 +1,9 @@
 -- Lists cut at a byte.
-use Rattle.std.proofs.Common.{one-add, ◌≡◌, ◌∙◌, ℕ, ◌+◌, ◌<◌, ◌≤◌, Bool, true, false, List, [], ◌∷◌, ◌++◌, ◌||◌, suc, cond, not, Option, Some, None, length, take, drop, get_or, refl, sym, ap, eqb, rules, arith}
-use Rattle.std.specs.List.{list_any, position_or_len, before_first, after_first, slice_split, All}
+use Rattle.std.proofs.Common.{one-add, ◌≡◌, ◌∙◌, ℕ, ◌+◌, ◌<◌, Bool, true, false, List, [], ◌∷◌, ◌||◌, suc, cond, not, Some, None, length, take, refl, ap, eqb, arith}
+use Rattle.std.specs.List.{list_any, position_or_len, before_first, after_first, All}
 use Rattle.std.proofs.Math.ListN.{drop_of_length-le}
 use Rattle.std.proofs.lemmas.List.Elements.{All-from_get_or, All-nil, All-cons}
-use Rattle.std.proofs.lemmas.List.Folds.{list_any_none, list_any_at, Any-from_list_any}
+use Rattle.std.proofs.lemmas.List.Folds.{list_any_none, list_any_at}
 use Rattle.std.proofs.lemmas.Bool.{false_from_ne_true}
 use Rattle.std.proofs.lemmas.List.Sums.{position_or_len_is}
 use Rattle.std.proofs.lemmas.List.Splits.{slice_split_none, slice_split_first}

@@ -1,8 +1,8 @@
 -- What holds of each tree.
-use Rattle.std.proofs.Common.{◌||◌, ◌≡◌, ◌∙◌, ℕ, ◌+◌, ◌-◌, ◌<◌, ◌≤◌, ◌⊎◌, ◌&&◌, inl, inr, not, Bool, true, false, List, [], ◌∷◌, ◌++◌, Option, Some, None, length, take, drop, get_or, map, refl, sym, ap, subst, eqb, ltb, leb, suc, rules, arith}
+use Rattle.std.proofs.Common.{◌||◌, ◌≡◌, ◌∙◌, ℕ, ◌<◌, ◌&&◌, inl, inr, not, Bool, true, false, List, [], ◌∷◌, ◌++◌, Option, Some, None, length, take, get_or, refl, sym, eqb, leb, arith}
 use Rattle.std.specs.Prelude.{is_none}
 use Rattle.std.specs.Option.{option_map}
-use Rattle.std.specs.List.{list_any, All}
+use Rattle.std.specs.List.{list_any}
 use Rattle.std.specs.Str.{bytes_eq}
 use Rattle.std.proofs.lemmas.Bool.{false_from_ne_true, leb-false, cases_lt}
 use Rattle.std.proofs.lemmas.Bool.Decides.{nat_tests}
@@ -14,7 +14,6 @@ use Rattle.pm_dn.specs.Refusal.{when_broken, first_code, name_refusal}
 use Rattle.pm_dn.specs.Containment.{class_of, superior_text}
 use Rattle.pm_dn.specs.Tree.{stands, is_root, add_refusal, IsTree, StandsAt, tree_error}
 use Rattle.pm_dn.specs.declared.error.DnError.{DnError}
-use Rattle.pm_dn.specs.declared.error.TreeError.{TreeError}
 use Rattle.pm_dn.specs.declared.error.TreeError.TheVariants.{N6, N7, N8, N9, N10}
 
 -- where nothing refuses a further object: what each rule then says

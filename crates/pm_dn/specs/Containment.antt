@@ -1,5 +1,5 @@
 -- Which object contains which (TS 28.541).
-use Rattle.std.specs.Prelude.{◌≡◌, ◌-◌, ℕ, Bool, Option, List, [], ◌∷◌, length, map, take}
+use Rattle.std.specs.Prelude.{◌-◌, ℕ, Bool, Option, List, [], ◌∷◌, length, map, take}
 use Rattle.std.specs.List.{find}
 use Rattle.std.specs.Str.{bytes_eq}
 use Rattle.std.specs.Cmp.Lexicographic.{pointwise}

@@ -1,5 +1,5 @@
 -- Distinguished names of managed objects, and their texts (TS 32.300; alphabet and limits are this project's own).
-use Rattle.std.specs.Prelude.{◌≡◌, ◌≤◌, ◌==◌, ℕ, Bool, List, [], ◌∷◌, ◌++◌, length, map, All}
+use Rattle.std.specs.Prelude.{◌≡◌, ◌≤◌, ◌==◌, ℕ, Bool, List, ◌∷◌, ◌++◌, length, map, All}
 use Rattle.std.specs.List.{join_with_byte, slice_split, before_first, after_first}
 use Rattle.pm_base.specs.Names.{IsDnClass, IsDnId}
 

@@ -1,4 +1,4 @@
-use Rattle.std.proofs.Common.{◌≡◌, ◌∙◌, ◌+◌, ap, sym, refl, rules, subst, length, take, drop, Some, None, arith}
+use Rattle.std.proofs.Common.{◌∙◌, ◌+◌, ap, sym, drop}
 use Rattle.std.proofs.lemmas.List.{take_rest}
 use Rattle.pm_dn.proofs.PieceLemmas.{list_any-from_first_none, list_any-from_first, position_or_len-from_first}
 use Rattle.pm_dn.proofs.pieces.cut_at.Goals as goal

@@ -1,4 +1,4 @@
-use Rattle.std.proofs.Common.{◌≡◌, length, map, take}
+use Rattle.std.proofs.Common.{◌≡◌, length, map}
 use Rattle.std.specs.List.{starts_with}
 use Rattle.pm_dn.specs.Name.{part_of}
 use Rattle.pm_dn.specs.Tree.{is_under, part_eq}

@@ -1,6 +1,5 @@
 use Rattle.std.proofs.Common.{refl, sym}
 use Rattle.pm_dn.specs.Name.{name_of}
-use Rattle.pm_dn.specs.declared.error.DnError.TheVariants.{Memory}
 use Rattle.pm_dn.proofs.NameLemmas.{no_name, IsNameOf-name_of, name_refusal-memory}
 use Rattle.pm_dn.proofs.dn.Dn.check.Goals as goal
 

@@ -1,5 +1,5 @@
 use Rattle.std.proofs.Common.{◌≡◌, sym, subst}
-use Rattle.pm_dn.specs.Name.{Part, IsNameOf, name_of}
+use Rattle.pm_dn.specs.Name.{IsNameOf, name_of}
 use Rattle.pm_dn.proofs.NameLemmas.{IsNameOf-name_of, IsNameOf-unique}
 use Rattle.pm_dn.proofs.dn.Dn.read.Goals as goal
 

@@ -1,4 +1,4 @@
-use Rattle.std.proofs.Common.{◌≡◌, ℕ, List, Option, Some, None, sym}
+use Rattle.std.proofs.Common.{◌≡◌, ℕ, List, Option, Some, None}
 use Rattle.std.specs.Prelude.{MatchOption, IfSome}
 use Rattle.pm_dn.specs.Tree.{IsTree, StandsAt}
 use Rattle.pm_dn.proofs.TreeLemmas.{StandsAt-alone}

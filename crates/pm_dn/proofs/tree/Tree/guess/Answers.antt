@@ -1,6 +1,5 @@
-use Rattle.std.proofs.Common.{◌≡◌, ◌∙◌, ◌<◌, length, get_or, sym, subst, ap}
+use Rattle.std.proofs.Common.{◌∙◌, sym, ap}
 use Rattle.std.proofs.lemmas.Slice.Eq.{bytes_eq-Decides}
-use Rattle.pm_dn.specs.Tree.{StandsAt}
 use Rattle.pm_dn.proofs.ObjectLemmas.{StandsAt-object, texts_of}
 use Rattle.pm_dn.proofs.tree.Tree.guess.Goals as goal
 

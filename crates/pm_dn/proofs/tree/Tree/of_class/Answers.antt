@@ -1,4 +1,4 @@
-use Rattle.std.proofs.Common.{◌≡◌, ◌∙◌, ◌<◌, length, get_or, sym, ap, rules, arith, []}
+use Rattle.std.proofs.Common.{◌∙◌, ◌<◌, length, get_or, sym, ap, rules, arith, []}
 use denote.Enum.Bare.{same_true, same_false}
 use Rattle.pm_base.specs.contracts.class.Class.{the_type}
 use Rattle.pm_dn.specs.Containment.{has_path_to}

@@ -1,4 +1,4 @@
-use Rattle.std.proofs.Common.{◌≡◌, ◌∙◌, ◌<◌, length, sym, ap, arith}
+use Rattle.std.proofs.Common.{◌∙◌, ◌<◌, length, sym, ap, arith}
 use Rattle.pm_dn.specs.Tree.{is_under}
 use Rattle.pm_dn.proofs.NumberLemmas.{numbers_where_yes, numbers_where_no}
 use Rattle.pm_dn.proofs.tree.Tree.subtree.Goals as goal
