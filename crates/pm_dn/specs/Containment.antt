@@ -16,6 +16,7 @@ path_to NrCellCu = ManagedElement ∷ GnbCuCp ∷ NrCellCu ∷ []
 path_to GnbDu = ManagedElement ∷ GnbDu ∷ []
 path_to NrCellDu = ManagedElement ∷ GnbDu ∷ NrCellDu ∷ []
 
+-- The five classes.
 abbrev pub all_classes : List Class
 all_classes = ManagedElement ∷ GnbCuCp ∷ NrCellCu ∷ GnbDu ∷ NrCellDu ∷ []
 

@@ -16,6 +16,7 @@ part_text part = part.class ++ 61 ∷ part.id
 abbrev pub name_text : List Part → List ℕ
 name_text name = join_with_byte 44 (map part_text name)
 
+-- Class and id keep within their alphabets and lengths.
 pub record IsPart (part : Part) : Type 0 where
   pub class_is : IsDnClass part.class
   pub id_is : IsDnId part.id
@@ -28,9 +29,11 @@ pub record IsNameOf (bytes : List ℕ) (name : List Part) : Type 0 where
   pub most : length name ≤ 8
   pub short : length bytes ≤ 256
 
+-- The byte between two parts.
 abbrev pub is_comma : ℕ → Bool
 is_comma b = b == 44
 
+-- The byte between class and id.
 abbrev pub is_equals : ℕ → Bool
 is_equals b = b == 61
 

@@ -1,5 +1,5 @@
 -- The tree of managed objects: the texts of their names, in the order in which they were added (this project's own).
-use Rattle.std.specs.Prelude.{◌≡◌, ◌<◌, ◌&&◌, ℕ, Bool, not, nat_le, is_none, Option, None, List, [], ◌∷◌, length, map, take, filter, slice_index_or}
+use Rattle.std.specs.Prelude.{◌≡◌, ◌<◌, ◌&&◌, ℕ, Bool, not, nat_le, is_none, Option, None, MatchOption, List, [], ◌∷◌, length, map, take, filter, slice_index_or}
 use Rattle.std.specs.List.{list_any, starts_with, enumerate_from}
 use Rattle.std.specs.Option.{option_map}
 use Rattle.std.specs.Str.{bytes_eq}
@@ -30,6 +30,11 @@ stands tree text = list_any (λ other. bytes_eq other text) tree
 abbrev pub StandsAt : List (List ℕ) → List ℕ → ℕ → Type 0
 StandsAt tree text object = (object < length tree) × (slice_index_or tree object [] ≡ text)
 
+-- The answer is the number of the object of this name; none where no object has it.
+abbrev pub FindsObject : List (List ℕ) → List ℕ → Option ℕ → Type 0
+FindsObject tree text answer = MatchOption answer ((object : ℕ) → StandsAt tree text object → ⊥) (StandsAt tree text)
+
+-- Whether the name is that of a root.
 abbrev pub is_root : List ℕ → Bool
 is_root text = has_path_to ManagedElement text
 
@@ -47,12 +52,15 @@ add_refusal tree text =
 
 -- Each object was one that the objects before it let in.
 abbrev pub IsTree : List (List ℕ) → Type 0
-IsTree tree = (object : ℕ) → object < length tree → add_refusal (take object tree) (slice_index_or tree object []) ≡ None
+IsTree tree =
+    (object : ℕ) → object < length tree → add_refusal (take object tree) (slice_index_or tree object []) ≡ None
 
 -- The numbers of the objects that pass a test, in tree order.
 abbrev pub numbers_where : (List ℕ → Bool) → List (List ℕ) → List ℕ
-numbers_where passes tree = map (λ (object : ℕ × List ℕ). object.0) (filter (λ object. passes object.1) (enumerate_from 0 tree))
+numbers_where passes tree =
+    map (λ (object : ℕ × List ℕ). object.0) (filter (λ object. passes object.1) (enumerate_from 0 tree))
 
+-- Whether two parts are the same.
 abbrev pub part_eq : Part → Part → Bool
 part_eq a b = bytes_eq a.class b.class && bytes_eq a.id b.id
 

@@ -8,7 +8,11 @@ use std::marker::Model;
 
 /// What stands before the first of these bytes, and what behind it.
 pub(crate) fn cut_at(text: &[u8], byte: u8) -> Option<(&[u8], &[u8])>
-    ensures { MatchOption result (list_any (λ b. b == byte) text.now ≡ false) (λ x. (list_any (λ b. b == byte) text.now ≡ true) × (x.0.now ≡ before_first (λ b. b == byte) text.now) × (x.1.now ≡ after_first (λ b. b == byte) text.now)) }
+    ensures { MatchOption result
+        (list_any (λ b. b == byte) text.now ≡ false)
+        (λ x. (list_any (λ b. b == byte) text.now ≡ true)
+        × (x.0.now ≡ before_first (λ b. b == byte) text.now)
+        × (x.1.now ≡ after_first (λ b. b == byte) text.now)) }
 {
     let at = memchr(byte, text)?;
     Some((&text[..at], &text[at + 1..]))
@@ -43,7 +47,9 @@ impl<'a> Pieces<'a> {
 
     /// The next piece.
     pub(crate) fn next_piece(&mut self) -> Option<&'a [u8]>
-        ensures { MatchOption result ((self.old ≡ []) × (self.new ≡ [])) (λ piece. self.old ≡ piece.now ∷ self.new) }
+        ensures { MatchOption result
+            ((self.old ≡ []) × (self.new ≡ []))
+            (λ piece. self.old ≡ piece.now ∷ self.new) }
     {
         if self.is_done {
             return None;

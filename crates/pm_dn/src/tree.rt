@@ -1,9 +1,9 @@
 //! The tree of managed objects.
-ghost use Rattle.std.specs.Prelude.{◌≡◌, ◌<◌, ◌≤◌, ◌+◌, ◌==◌, ◌++◌, ◌⊎◌, ℕ, [], ◌∷◌, length, MatchOption, MatchResult, IfSome, IfOk, IfErr, OnOk, OnErr, Some, None, slice_index_or};
+ghost use Rattle.std.specs.Prelude.{◌≡◌, ◌<◌, ◌≤◌, ◌+◌, ◌==◌, ◌++◌, ◌⊎◌, ℕ, [], ◌∷◌, length, IfSome, IfOk, IfErr, OnOk, OnErr, Some, None, slice_index_or};
 ghost use Rattle.std.specs.List.{list_any};
 ghost use Rattle.pm_dn.specs.Refusal.{name_refusal};
 ghost use Rattle.pm_dn.specs.Containment.{class_of};
-ghost use Rattle.pm_dn.specs.Tree.{add_refusal, IsTree, StandsAt, stands, is_root, subtree_of, objects_of};
+ghost use Rattle.pm_dn.specs.Tree.{add_refusal, IsTree, StandsAt, FindsObject, stands, is_root, subtree_of, objects_of};
 
 use crate::containment::{class_of, has_path_to, is_under, superior};
 use crate::error::TreeError;
@@ -85,7 +85,7 @@ impl Tree {
 
     /// The number of the object of this name.
     pub fn find(&self, name: &[u8]) -> Option<u16>
-        ensures found { MatchOption result ((object : ℕ) → StandsAt self.now name.now object → ⊥) (λ object. StandsAt self.now name.now object) }
+        ensures found { FindsObject self.now name.now result }
         ensures alone { IfSome result (λ object. (other : ℕ) → StandsAt self.now name.now other → other ≡ object) }
     {
         match self.guess(name) {
@@ -113,7 +113,7 @@ impl Tree {
     // One after the other.
     #[cold]
     fn search(&self, name: &[u8]) -> Option<u16>
-        ensures { MatchOption result ((object : ℕ) → StandsAt self.now name.now object → ⊥) (λ object. StandsAt self.now name.now object) }
+        ensures { FindsObject self.now name.now result }
     {
         for object in 0..self.len() {
             if self.text(object) == name {
