@@ -1,3 +1,5 @@
 pub mod CellLemmas
 pub mod WordLemmas
 pub mod NumberLemmas
+pub mod CatalogueLemmas
+pub mod BreaksLemmas

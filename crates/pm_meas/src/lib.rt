@@ -1,13 +1,16 @@
 //! Measurements: their kinds and reductions, the catalogue that names them, and the cells that their values are folded into.
 #![tactic(auto)]
 
+mod catalogue;
 mod cell;
 mod def;
 mod error;
 mod kind;
+mod line;
 mod method;
 mod words;
 
+pub use catalogue::{Catalogue, MEASURES};
 pub use cell::Cell;
 pub use def::Def;
 pub use error::MeasError;
