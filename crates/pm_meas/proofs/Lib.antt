@@ -3,3 +3,5 @@ pub mod WordLemmas
 pub mod NumberLemmas
 pub mod CatalogueLemmas
 pub mod BreaksLemmas
+pub mod FamilyLemmas
+pub mod TextLemmas

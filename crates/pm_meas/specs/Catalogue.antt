@@ -1,8 +1,7 @@
 -- The catalogue: the definitions of the accepted lines, in their order (this project's own).
-use Rattle.std.specs.Prelude.{◌≡◌, ◌≢◌, ℕ, ◌<◌, ◌≤◌, ◌↔◌, List, [], ◌∷◌, ◌++◌, length, map, All, AllPairs, Contains, Some, slice_get}
+use Rattle.std.specs.Prelude.{◌≡◌, ◌≢◌, ◌==◌, ℕ, ◌<◌, ◌≤◌, ◌↔◌, List, [], ◌∷◌, ◌++◌, length, map, All, AllPairs, Contains, Some, slice_get}
 use Rattle.std.specs.List.{before_first}
 use Rattle.std.specs.List.Sorted.{IsStrictlyIncreasing}
-use Rattle.std.specs.Bool.{◌==◌}
 use Rattle.pm_meas.specs.declared.def.Def.{Def}
 use Rattle.pm_meas.specs.declared.error.MeasError.{MeasError}
 use Rattle.pm_meas.specs.declared.error.MeasError.TheVariants.{I1, M1, M2, M3, M4, Memory}
@@ -43,7 +42,13 @@ pub record Adds (old : List Def) (line : List ℕ) (new : List Def) : Type 0 whe
 abbrev pub family_of : List ℕ → List ℕ
 family_of name = before_first (λ b. b == 46) name
 
+-- the measurement of this number is of the family
+pub record IsOfFamily (defs : List Def) (family : List ℕ) (metric : ℕ) : Type 0 where
+  pub name : List ℕ
+  pub name_is : slice_get (names_of defs) metric ≡ Some name
+  pub family_is : family_of name ≡ family
+
 -- the numbers of the measurements of a family, in order
 pub record AreOfFamily (defs : List Def) (family metrics : List ℕ) : Type 0 where
   pub ordered : IsStrictlyIncreasing metrics
-  pub all : (m : ℕ) → Contains metrics m ↔ ((def : Def) × (slice_get defs m ≡ Some def) × (family_of def.name ≡ family))
+  pub all : (m : ℕ) → Contains metrics m ↔ IsOfFamily defs family m

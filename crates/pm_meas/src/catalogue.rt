@@ -2,7 +2,8 @@
 //!
 //! A name is looked up in a table of places, by a hash of the name. No proof trusts what stands in the table: what it
 //! finds is compared with the name, and where it finds nothing the names are gone through.
-ghost use Rattle.std.specs.Prelude.{◌≡◌, ◌≢◌, ◌+◌, ◌<◌, ◌≤◌, ◌↔◌, List, [], ◌∷◌, ◌++◌, length, Some, IfOk, IfErr, OnErr, IfSome, MatchOption, MatchResult, IsTrue, slice_get};
+ghost use Rattle.std.specs.Prelude.{◌≡◌, ◌≢◌, ◌+◌, ◌<◌, ◌≤◌, ◌↔◌, List, [], ◌∷◌, ◌++◌, length, Some, IfOk, IfErr, OnErr, IfSome, MatchOption, MatchResult, IsTrue, slice_get, ◌==◌, position};
+ghost use Rattle.std.specs.List.{before_first};
 ghost use Rattle.pm_meas.specs.Def.{words_of, IsDef};
 ghost use Rattle.pm_meas.specs.Catalogue.{names_of, Stands, IsCatalogue, Breaks, Adds, AreOfFamily};
 
@@ -46,6 +47,22 @@ fn is_same(a: &[u8], b: &[u8]) -> bool
     ensures { IsTrue result ↔ (a.now ≡ b.now) }
 {
     a == b
+}
+
+fn dot(name: &[u8]) -> Option<usize>
+    ensures { result ≡ position (λ b. b == 46) name.now }
+{
+    name.iter().position(|b| *b == b'.')
+}
+
+// The part before the first dot.
+fn family_of(name: &[u8]) -> &[u8]
+    ensures { result.now ≡ before_first (λ b. b == 46) name.now }
+{
+    match dot(name) {
+        Some(end) => &name[..end],
+        None => name,
+    }
 }
 
 // Where the table is looked into first.
@@ -174,6 +191,20 @@ impl Catalogue {
             Ok(metric) => Ok(metric),
             Err(_) => Err(MeasError::Memory),
         }
+    }
+
+    /// The numbers of the measurements of a family, in order. The family of a name is the part before its first dot.
+    pub fn family(&self, alloc: Global, family: &[u8]) -> Result<Vec<u8>, AllocError>
+        ensures { IfOk result (λ v. AreOfFamily self.now family.now v.items) }
+    {
+        let mut metrics = Vec::new(alloc);
+        for metric in 0..self.len() {
+            let name = self.def(metric).name.as_bytes();
+            if is_same(family_of(name), family) {
+                metrics.push(metric)?;
+            }
+        }
+        Ok(metrics)
     }
 
     // Adds the measurement of a line that breaks no rule.

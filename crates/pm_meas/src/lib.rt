@@ -8,10 +8,12 @@ mod error;
 mod kind;
 mod line;
 mod method;
+mod tally;
 mod words;
 
 pub use catalogue::{Catalogue, MEASURES};
-pub use cell::Cell;
+pub use cell::{Cell, MAX_COUNT, MAX_VALUE};
 pub use def::Def;
 pub use error::MeasError;
 pub use kind::{Kind, Reduce};
+pub use tally::Tally;
