@@ -77,10 +77,10 @@ HasNoSpace-numbers Si is = tt
 -- the text of a permitted definition reads as it
 pub text_reads_back : (d : Def) → IsDef d → ReadAs (words_of (def_text d)) d
 text_reads_back d is = record {
-    words_are = sym (words_of-join d.name _ (HasNoSpace-name d.name is.name_is)
+  words_are = sym (words_of-join d.name _ (HasNoSpace-name d.name is.name_is)
       (HasNoSpace-class d.class, (HasNoSpace-kind d.kind, (HasNoSpace-reduce d.reduce, HasNoSpace-numbers d.kind is.method_is.kind_is))));
-    def_is = is;
-  }
+  def_is = is;
+}
 
 -- and no other line does
 pub text_only : (line : List ℕ) (d : Def) → ReadAs (words_of line) d → line ≡ def_text d

@@ -8,6 +8,7 @@ mod error;
 mod kind;
 mod line;
 mod method;
+pub mod plain;
 mod tally;
 mod words;
 
@@ -17,3 +18,6 @@ pub use def::Def;
 pub use error::MeasError;
 pub use kind::{Kind, Reduce};
 pub use tally::Tally;
+
+#[cfg(test)]
+mod tests;
