@@ -1,5 +1,6 @@
 -- The names of a catalogue.
-use Rattle.std.proofs.Common.{◌≡◌, ◌≢◌, ◌↔◌, ℕ, ◌<◌, ◌≤◌, List, [], ◌∷◌, ◌++◌, Option, Some, None, Bool, true, false, length, length-append, subst, AllPairs, get_or, slice_get, refl, sym, ap, ◌∙◌, arith, IsTrue}
+use Rattle.std.proofs.Common.{◌≡◌, ◌≢◌, ◌↔◌, ℕ, ◌<◌, ◌≤◌, List, [], ◌∷◌, ◌++◌, Option, Some, None, Bool, true, false, length, length-append, subst, AllPairs, get_or, slice_get, inl, inr, refl, sym, ap, ◌∙◌, arith, IsTrue}
+use Rattle.std.proofs.lemmas.Bool.{cases_order}
 use Rattle.std.proofs.lemmas.List.{length-map, map-append, get_or_default}
 use Rattle.std.proofs.lemmas.List.Elements.{All-push}
 use Rattle.std.proofs.lemmas.List.Quantifiers.{all_pairs_push}
@@ -49,3 +50,23 @@ Stands-found defs name (Some m) tells some =
 pub Stands-not_found : (defs : List Def) (name : List ℕ) (r : Option ℕ) → MatchOption r (¬ Stands defs name) (λ m. slice_get (names_of defs) m ≡ Some name) → is_some r ≡ false → ¬ Stands defs name
 Stands-not_found defs name None tells none = tells
 Stands-not_found defs name (Some m) tells none = absurd (cc none)
+
+-- one number has a name, since the names are different
+pub name_at-only : (defs : List Def) (name : List ℕ) (j k : ℕ) → IsCatalogue defs → slice_get (names_of defs) j ≡ Some name → slice_get (names_of defs) k ≡ Some name → j ≡ k
+name_at-only defs name j k is first second = elim (cases_order j k) [
+  | inl same ↦ same
+  | inr other ↦ elim other [
+    | inl less ↦ absurd (apart j k less first second)
+    | inr more ↦ absurd (apart k j more second first)
+  ]
+]
+  where
+    apart : (a b : ℕ) → a < b → slice_get (names_of defs) a ≡ Some name → slice_get (names_of defs) b ≡ Some name → ⊥
+    apart a b less at_a at_b =
+        is.distinct a b name less (slice_get_within (names_of defs) b name at_b)
+        (get_or_from_slice_get (names_of defs) a name name at_a ∙ sym (get_or_from_slice_get (names_of defs) b name name at_b))
+
+pub found-only : (defs : List Def) (name : List ℕ) (r : Option ℕ) → IsCatalogue defs → MatchOption r (¬ Stands defs name) (λ m. slice_get (names_of defs) m ≡ Some name)
+    → (m : ℕ) → slice_get (names_of defs) m ≡ Some name → r ≡ Some m
+found-only defs name None is tells m at = absurd (tells (m, slice_get_within (names_of defs) m name at, get_or_from_slice_get (names_of defs) m name name at))
+found-only defs name (Some k) is tells m at = ap Some (name_at-only defs name k m is tells at)

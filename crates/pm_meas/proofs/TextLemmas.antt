@@ -1,5 +1,5 @@
 -- The text of a definition, and the words that it is read as.
-use Rattle.std.proofs.Common.{◌≡◌, ℕ, ◌<◌, ◌≤◌, Bool, true, false, not, eqb, List, [], ◌∷◌, ◌++◌, length, get_or, All, refl, sym, ap, ◌∙◌, subst, arith}
+use Rattle.std.proofs.Common.{◌≡◌, ℕ, ◌≤◌, Bool, true, false, not, eqb, List, [], ◌∷◌, get_or, All, refl, sym, ap, ◌∙◌, arith}
 use Rattle.std.proofs.lemmas.Bool.{eqb-true, ne_eqb}
 use Rattle.std.proofs.lemmas.List.Elements.{All-weaker, All-from_get_or}
 use Rattle.std.proofs.lemmas.List.Splits.{slice_split_none, slice_split_at, join_with_byte-slice_split}
@@ -8,7 +8,6 @@ use Rattle.std.proofs.lemmas.Fmt.{decimal_is_IsNumeral}
 use Rattle.std.proofs.lemmas.Str.Parse.{digit_at}
 use Rattle.std.specs.Fmt.{decimal}
 use Rattle.std.specs.List.{AllByRecursion, join_with_byte, list_all}
-use Rattle.std.specs.Str.Parse.{AllDigits}
 use Rattle.pm_base.specs.declared.class.Class.{Class}
 use Rattle.pm_base.specs.declared.class.Class.TheVariants.{ManagedElement, GnbCuCp, NrCellCu, GnbDu, NrCellDu}
 use Rattle.pm_base.specs.Class.{class_name}
@@ -18,7 +17,7 @@ use Rattle.pm_meas.specs.declared.kind.Kind.TheVariants.{Cc, Gauge, Der, Si}
 use Rattle.pm_meas.specs.declared.kind.Reduce.{Reduce}
 use Rattle.pm_meas.specs.declared.kind.Reduce.TheVariants.{Sum, Mean, Max, Min}
 use Rattle.pm_meas.specs.declared.def.Def.{Def}
-use Rattle.pm_meas.specs.Def.{kind_word, reduce_word, number_words, IsKind, IsDef, ReadAs, def_words, def_text, words_of}
+use Rattle.pm_meas.specs.Def.{kind_word, reduce_word, number_words, IsKind, IsDef, ReadAs, def_text, words_of}
 
 -- no byte is a space
 abbrev pub HasNoSpace : List ℕ → Type 0

@@ -2,7 +2,7 @@
 //!
 //! A name is looked up in a table of places, by a hash of the name. No proof trusts what stands in the table: what it
 //! finds is compared with the name, and where it finds nothing the names are gone through.
-ghost use Rattle.std.specs.Prelude.{◌≡◌, ◌≢◌, ◌+◌, ◌<◌, ◌≤◌, ◌↔◌, List, [], ◌∷◌, ◌++◌, length, Some, IfOk, IfErr, OnErr, IfSome, MatchOption, MatchResult, IsTrue, slice_get, ◌==◌, position};
+ghost use Rattle.std.specs.Prelude.{◌≡◌, ◌≢◌, ◌+◌, ◌<◌, ◌≤◌, ◌↔◌, ℕ, List, [], ◌∷◌, ◌++◌, length, Some, IfOk, IfErr, OnErr, IfSome, MatchOption, MatchResult, IsTrue, slice_get, ◌==◌, position};
 ghost use Rattle.std.specs.List.{before_first};
 ghost use Rattle.pm_meas.specs.Def.{words_of, IsDef};
 ghost use Rattle.pm_meas.specs.Catalogue.{names_of, Stands, IsCatalogue, Breaks, Adds, AreOfFamily};
@@ -15,7 +15,7 @@ use std::alloc::{AllocError, Global};
 use std::marker::Model;
 
 /// The most measurements of a catalogue.
-pub const MEASURES: usize = 64;
+pub const MAX_MEASURES: usize = 64;
 
 const PLACES: usize = 256;
 
@@ -23,7 +23,7 @@ const PLACES: usize = 256;
 const FACTOR: u64 = 0x9e37_79b9_7f4a_7c15;
 
 /// A list of at most 64 permitted definitions of different names. A measurement's number is its place in the list.
-#[derive(Drop)]
+#[derive(Debug, Drop)]
 pub struct Catalogue {
     defs: Vec<Def>,
     // At a place a measurement's number and one, or 0.
@@ -125,7 +125,8 @@ impl Catalogue {
 
     /// The number of the measurement of this name; none where none has it.
     pub fn find(&self, name: &[u8]) -> Option<u8>
-        ensures { MatchOption result (Stands self.now name.now → ⊥) (λ m. slice_get (names_of self.now) m ≡ Some name.now) }
+        ensures only { (m : ℕ) → slice_get (names_of self.now) m ≡ Some name.now → result ≡ Some m }
+        ensures answer { MatchOption result (Stands self.now name.now → ⊥) (λ m. slice_get (names_of self.now) m ≡ Some name.now) }
     {
         if let Some(metric) = self.guess(name) {
             return Some(metric);
@@ -145,7 +146,8 @@ impl Catalogue {
 
     // By the table.
     fn guess(&self, name: &[u8]) -> Option<u8>
-        ensures { IfSome result (λ m. slice_get (names_of self.now) m ≡ Some name.now) }
+        ensures catalogue { IsCatalogue self.now }
+        ensures answer { IfSome result (λ m. slice_get (names_of self.now) m ≡ Some name.now) }
     {
         let first = first_place(name);
         for step in 0..=u8::MAX {
@@ -184,7 +186,7 @@ impl Catalogue {
         if self.find(line.name).is_some() {
             return Err(MeasError::M3);
         }
-        if self.defs.len() >= MEASURES {
+        if self.defs.len() >= MAX_MEASURES {
             return Err(MeasError::M4);
         }
         match self.push(&line) {

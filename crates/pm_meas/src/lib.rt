@@ -12,7 +12,7 @@ pub mod plain;
 mod tally;
 mod words;
 
-pub use catalogue::{Catalogue, MEASURES};
+pub use catalogue::{Catalogue, MAX_MEASURES};
 pub use cell::{Cell, MAX_COUNT, MAX_VALUE};
 pub use def::Def;
 pub use error::MeasError;

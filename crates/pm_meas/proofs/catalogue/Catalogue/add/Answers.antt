@@ -14,7 +14,7 @@ returns-in_err-line-clause-exact c =
 
 pub returns-then-is_some-clause-refusal : goal.returns-then-is_some-clause-refusal
 returns-then-is_some-clause-refusal c =
-    Breaks-M3 c.args.self.now _ _ c.in_ok-line.ensures (Stands-found c.args.self.now _ c.find.result c.find.ensures (sym c.is_some.ensures ∙ c.if-is_some.true))
+    Breaks-M3 c.args.self.now _ _ c.in_ok-line.ensures (Stands-found c.args.self.now _ c.find.result c.find.ensures.answer (sym c.is_some.ensures ∙ c.if-is_some.true))
 
 pub returns-then-is_some-clause-exact : goal.returns-then-is_some-clause-exact
 returns-then-is_some-clause-exact c = Breaks-exact c.args.self.now _ M3 (returns-then-is_some-clause-refusal c)
