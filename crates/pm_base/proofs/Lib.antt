@@ -1,0 +1,5 @@
+pub mod LineLemmas
+pub mod FeedLemmas
+pub mod NumberLemmas
+pub mod PiecesLemmas
+pub mod LinesLemmas

@@ -1,6 +1,11 @@
 pub mod Causes
 pub mod Outside
+pub mod Pieces
+pub mod Line
+pub mod Feed
+pub mod FeedFields
 pub mod Moment
+pub mod Number
 pub mod Class
 pub mod Code
 pub mod Names

@@ -1,6 +1,7 @@
 //! A source in memory, of whose calls some fail.
 ghost use Rattle.std.specs.Prelude.{◌≡◌, ◌≤◌, ℕ, Option, Some, Ok, [], List, length, take, drop, min, IfOk};
 
+use crate::copying::copy_front;
 use crate::{Failed, Source};
 use std::alloc::{AllocError, Global};
 
@@ -64,18 +65,4 @@ impl Source for MemSource {
         self.at += count;
         Ok(count)
     }
-}
-
-/// Copies the first of the bytes to the front of the buffer, as many as it has room for, and answers how many.
-pub fn copy_front(bytes: &[u8], buf: &mut [u8]) -> usize
-    ensures count { result ≡ min (length bytes.now) (length buf.old) }
-    ensures moved { take result buf.new ≡ take result bytes.now }
-{
-    let count = if bytes.len() < buf.len() {
-        bytes.len()
-    } else {
-        buf.len()
-    };
-    buf[..count].copy_from_slice(&bytes[..count]);
-    count
 }

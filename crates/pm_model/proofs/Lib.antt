@@ -1,0 +1,2 @@
+pub mod EventLineLemmas
+pub mod EventLemmas

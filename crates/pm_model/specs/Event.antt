@@ -1,0 +1,61 @@
+-- Events, and why a line of events is refused (this project's own).
+use Rattle.std.specs.Prelude.{◌==◌, ℕ, List, map, filter, length, fold, nat_le, nat_lt, Option, Some, None, Result, Ok, Err, if◌then◌else◌}
+use Rattle.std.specs.List.{filter_map}
+use Rattle.pm_base.specs.Moment.{tick_of}
+use Rattle.pm_base.specs.declared.code.Code.{Code}
+use Rattle.pm_base.specs.declared.code.Code.TheVariants.{E1, E2, E3, E4, E5}
+use Rattle.pm_model.specs.Slot.{Slot, slot_place}
+use Rattle.pm_model.specs.EventLine.{LineEvent, event_line}
+use Rattle.pm_model.specs.declared.event.Event.{Event}
+
+-- The event of a slot, whose value is at most 1,048,575.
+abbrev pub event_in_slot : LineEvent → Option ℕ → Result Event Code
+event_in_slot e None = Err E2
+event_in_slot e (Some slot) = if nat_le e.value 1048575 then Ok (record { moment = e.moment; slot = slot; value = e.value }) else Err E3
+
+abbrev pub event_of : List Slot → Option LineEvent → Result Event Code
+event_of slots None = Err E1
+event_of slots (Some e) = event_in_slot e (slot_place slots e.object e.metric)
+
+-- What a line says by itself: an event, or E1 where it hasn't the form, E2 where there is no such slot, E3 where the value
+-- is too great.
+abbrev pub read_event : List Slot → List ℕ → Result Event Code
+read_event slots line = event_of slots (event_line line)
+
+-- The events of lines.
+abbrev pub event_of_result : Result Event Code → Option Event
+event_of_result (Ok e) = Some e
+event_of_result (Err code) = None
+
+abbrev pub events_of : List Slot → List (List ℕ) → List Event
+events_of slots lines = filter_map (λ line. event_of_result (read_event slots line)) lines
+
+-- The moment of the last event, and 0 of none.
+abbrev pub last_moment : List Event → ℕ
+last_moment events = fold (λ _ e. e.moment) 0 events
+
+-- The events of a tick.
+abbrev pub events_in : List Event → ℕ → List Event
+events_in events tick = filter (λ e. tick_of e.moment == tick) events
+
+-- The values of a slot in a tick, in order.
+abbrev pub values_in : List Event → ℕ → ℕ → List ℕ
+values_in events slot tick = map (λ e. e.value) (filter (λ e. e.slot == slot) (events_in events tick))
+
+-- The most events that are registered in a tick.
+abbrev pub MOST_REGISTERED : ℕ
+MOST_REGISTERED = 1073741824
+
+-- Why an event is refused behind earlier ones: E5 where its moment falls, E4 where its tick is full.
+abbrev pub order_refusal : List Event → Event → Option Code
+order_refusal earlier e =
+    if nat_lt e.moment (last_moment earlier) then Some E5
+    else (if nat_le MOST_REGISTERED (length (events_in earlier (tick_of e.moment))) then Some E4 else None)
+
+abbrev pub refusal_of : List Event → Result Event Code → Option Code
+refusal_of earlier (Err code) = Some code
+refusal_of earlier (Ok e) = order_refusal earlier e
+
+-- Why a line is refused behind earlier events: the first rule broken of E1, E2, E3, E5 and E4; none where it is good.
+abbrev pub refusal : List Slot → List Event → List ℕ → Option Code
+refusal slots earlier line = refusal_of earlier (read_event slots line)

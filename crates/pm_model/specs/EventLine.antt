@@ -1,0 +1,27 @@
+-- Lines of events, of the form `MOMENT LDN METRIC VALUE` (this project's own).
+use Rattle.std.specs.Prelude.{◌&&◌, ℕ, List, [], ◌∷◌, length, nat_le, Option, Some, None, if◌then◌else◌}
+use Rattle.pm_base.specs.Pieces.{pieces_of}
+use Rattle.pm_base.specs.Number.{is_number, is_moment, number_of}
+
+-- What a line of events says.
+pub record LineEvent : Type 0 where
+  pub moment : ℕ
+  pub object : List ℕ
+  pub metric : List ℕ
+  pub value : ℕ
+
+-- The words of a line. Each single space parts two.
+abbrev pub words_of : List ℕ → List (List ℕ)
+words_of line = pieces_of 32 line
+
+-- What four words say: a moment of 1 to 12 digits, two names, and a number of 1 to 10 digits.
+abbrev pub event_of_words : List (List ℕ) → Option LineEvent
+event_of_words (moment ∷ object ∷ metric ∷ value ∷ []) =
+    if (is_moment moment && is_number 10 value) && (nat_le 1 (length object) && nat_le 1 (length metric))
+    then Some (record { moment = number_of moment; object = object; metric = metric; value = number_of value })
+    else None
+event_of_words _ = None
+
+-- What a line of at most 2,048 bytes says; none where it hasn't the form.
+abbrev pub event_line : List ℕ → Option LineEvent
+event_line line = if nat_le (length line) 2048 then event_of_words (words_of line) else None

@@ -1,0 +1,58 @@
+//! The reading of a line of events.
+ghost use Rattle.std.specs.Prelude.{◌≡◌, ◌∷◌, [], length, MatchOption, Some, None};
+ghost use Rattle.pm_model.specs.EventLine.{words_of, event_line, event_of_words};
+
+use pm_base::{cut_at, read_moment, read_number};
+
+/// The words of a line of events, read.
+#[derive(Clone, Copy, Debug)]
+pub struct EventLine<'a> {
+    /// Seconds since 1970-01-01 00:00 UTC.
+    pub moment: u64,
+    /// A text where the distinguished name of an object stands.
+    pub object: &'a [u8],
+    /// A text where the name of a measurement stands.
+    pub metric: &'a [u8],
+    /// A number of up to 10 digits.
+    pub value: u64,
+}
+
+/// The longest line of events, in bytes.
+pub const LONGEST_LINE: usize = 2_048;
+
+/// Reads a line `MOMENT LDN METRIC VALUE`, its line feed left out; none where it hasn't this form or has over 2,048 bytes.
+pub fn read_event_line(line: &[u8]) -> Option<EventLine<'_>>
+    ensures { MatchOption result (event_line line.now ≡ None) (λ e. event_line line.now ≡ Some (record { moment = e.moment; object = e.object.now; metric = e.metric.now; value = e.value })) }
+{
+    if line.len() > LONGEST_LINE {
+        return None;
+    }
+    let (moment, rest) = cut_at(b' ', line)?;
+    let (object, rest) = cut_at(b' ', rest)?;
+    let (metric, value) = cut_at(b' ', rest)?;
+    match cut_at(b' ', value) {
+        Some(_) => None,
+        None => event_of(moment, object, metric, value),
+    }
+}
+
+fn event_of<'a>(
+    moment: &'a [u8],
+    object: &'a [u8],
+    metric: &'a [u8],
+    value: &'a [u8],
+) -> Option<EventLine<'a>>
+    ensures { let words = moment.now ∷ object.now ∷ metric.now ∷ value.now ∷ [] in MatchOption result (event_of_words words ≡ None) (λ e. event_of_words words ≡ Some (record { moment = e.moment; object = e.object.now; metric = e.metric.now; value = e.value })) }
+{
+    let moment = read_moment(moment)?;
+    let value = read_number(value, 10)?;
+    if object.is_empty() || metric.is_empty() {
+        return None;
+    }
+    Some(EventLine {
+        moment,
+        object,
+        metric,
+        value,
+    })
+}

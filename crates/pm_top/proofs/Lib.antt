@@ -1,0 +1,7 @@
+pub mod TallyLemmas
+pub mod CountingLemmas
+pub mod TakingLemmas
+pub mod Progress
+pub mod FinishLemmas
+pub mod InventoryLemmas
+pub mod WordsLemmas

@@ -1,0 +1,9 @@
+pub mod Exit
+pub mod Slots
+pub mod Tally
+pub mod Outcome
+pub mod Counting
+pub mod Taking
+pub mod Finishing
+pub mod Inventory
+pub mod Words

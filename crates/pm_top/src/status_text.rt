@@ -1,0 +1,24 @@
+//! The text of a status, as it stands on standard error behind the program's name.
+use crate::Status;
+use std::fmt;
+
+impl fmt::Display for Status {
+    fn fmt<W: fmt::Write>(&self, f: &mut fmt::Formatter<W>) -> fmt::Result {
+        let exit = self.exit();
+        match *self {
+            Status::Done => write!(f, "status {exit} Done"),
+            Status::Usage => write!(f, "status {exit} Usage"),
+            Status::BadInput { place, code } => {
+                let code = code.name();
+                write!(f, "status {exit} BadInput at {place} {code}")
+            }
+            Status::ReadFault => write!(f, "status {exit} ReadFault"),
+            Status::WriteFault => write!(f, "status {exit} WriteFault"),
+            Status::BadInventory { line, code } => {
+                let code = code.name();
+                write!(f, "status {exit} BadInventory at {line} {code}")
+            }
+            Status::Memory => write!(f, "status {exit} Memory"),
+        }
+    }
+}

@@ -1,0 +1,70 @@
+//! What a tally does with a further line.
+ghost use Rattle.std.specs.Prelude.{◌≡◌, ◌≤◌, List, Err};
+ghost use Rattle.pm_base.specs.Causes.{Rose};
+ghost use Rattle.pm_model.specs.declared.event.Event.{Event};
+ghost use Rattle.pm_top.specs.Counting.{Counts};
+ghost use Rattle.pm_top.specs.Taking.{TakesLine, WritesLine, stop_status};
+
+use crate::Status;
+use crate::counting::Counting;
+use crate::lines::{Fault, write_tick};
+use crate::slot::read;
+use pm_base::{Code, Sink, tick};
+
+/// Why a line was not counted.
+#[derive(Clone, Copy, Debug, PartialEq, Eq)]
+pub enum Stop {
+    /// The line is refused.
+    Refused(Code),
+    /// The output failed.
+    WriteFault,
+    /// Want of memory.
+    Memory,
+}
+
+impl Stop {
+    /// How a tally ends that stops at the line of this number.
+    pub fn status(self, place: u64) -> Status
+        ensures { result ≡ stop_status place self }
+    {
+        match self {
+            Stop::Refused(code) => Status::BadInput { place, code },
+            Stop::WriteFault => Status::WriteFault,
+            Stop::Memory => Status::Memory,
+        }
+    }
+}
+
+/// Counts the event of a line behind earlier ones. Where it begins a later tick, the lines of the tick before are written
+/// first.
+pub fn take_line<K: Sink>(
+    counting: &mut Counting,
+    text: &mut Vec<u8>,
+    line: &[u8],
+    output: &mut K,
+) -> Result<(), Stop>
+    ensures taken { (events : List Event) → Counts counting.old events → TakesLine events line.now result counting.new }
+    ensures written { K.IsTold → (events : List Event) → Counts counting.old events → WritesLine events line.now result (K.written output.old) (K.written output.new) }
+    ensures fault { result ≡ Err Stop.WriteFault → Rose (K.faults output.old) (K.faults output.new) }
+    ensures later { K.faults output.old ≤ K.faults output.new }
+{
+    let event = match read(line) {
+        Ok(event) => event,
+        Err(code) => return Err(Stop::Refused(code)),
+    };
+    if let Some(code) = counting.refusal(&event) {
+        return Err(Stop::Refused(code));
+    }
+    if tick(event.moment) == tick(counting.moment) {
+        counting.add(&event);
+        return Ok(());
+    }
+    match write_tick(counting, text, output) {
+        Ok(()) => {
+            counting.begin(&event);
+            Ok(())
+        }
+        Err(Fault::Write) => Err(Stop::WriteFault),
+        Err(Fault::Memory) => Err(Stop::Memory),
+    }
+}
