@@ -91,3 +91,8 @@ pub record HaveMethod (words : List (List ℕ)) : Type 0 where
   pub reduce : Reduce
   pub method_is : IsMethod kind reduce
   pub words_are : method_words kind reduce ≡ drop 2 words
+
+-- the words read as the definition
+pub record ReadAs (words : List (List ℕ)) (def : Def) : Type 0 where
+  pub words_are : def_words def ≡ words
+  pub def_is : IsDef def

@@ -4,6 +4,7 @@ ghost use Rattle.std.specs.Option.{option_copied};
 ghost use Rattle.pm_meas.specs.Def.{words_of, AreFourOrFive};
 
 /// The words of a line that has four or five.
+#[derive(Drop)]
 pub struct Words<'a> {
     pub name: &'a [u8],
     pub class: &'a [u8],
