@@ -101,6 +101,7 @@ impl Feed {
         // Of any source: each line takes a byte at least, and all of them at most the limit.
         ensures takes { (n : ℕ) → result ≡ Ok (Line.Whole n) → self.old.given < self.new.given }
         ensures most { self.new.given ≤ MOST_READ }
+        ensures end { result ≡ Ok Line.End → self.old.given < MOST_READ }
 
         // The limit comes exactly where it is met.
         ensures limit { S.IsTold → result ≡ Err FeedError.Limit → MeetsLimit self.old (S.left source.old) }
@@ -188,6 +189,7 @@ impl Feed {
         ensures ended { self.new.ended ≡ self.old.ended }
         ensures within { self.old.given + length self.old.buffered ≤ MOST_READ }
         ensures takes { (n : ℕ) → result ≡ Some (Line.Whole n) → self.old.given < self.new.given }
+        ensures end { result ≡ Some Line.End → self.old.given < MOST_READ }
     {
         self.line = 0;
         self.stop = 0;

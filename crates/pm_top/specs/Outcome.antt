@@ -1,7 +1,7 @@
 -- How a tally ends, and what it has written then (this project's own).
 --
 -- `IsTold` says whether the output tells what was written to it, `old` what that was before and `new` what it is then.
-use Rattle.std.specs.Prelude.{◌≡◌, ◌⊎◌, ◌+◌, ◌^◌, ◌≤◌, ℕ, List, [], ◌∷◌, ◌++◌, length, take, drop, codes, Option, Some, None, if◌then◌else◌}
+use Rattle.std.specs.Prelude.{◌≡◌, ◌⊎◌, ◌+◌, ◌^◌, ◌<◌, ◌≤◌, ℕ, List, [], ◌∷◌, ◌++◌, length, take, drop, codes, Option, Some, None, if◌then◌else◌}
 use Rattle.std.specs.Str.{bytes_eq}
 use Rattle.pm_base.specs.Line.{lines_of}
 use Rattle.pm_base.specs.Moment.{tick_of}
@@ -56,7 +56,7 @@ pub record IsTooLong (slots : List Slot) (total : ℕ) (lines : List (List ℕ))
 
 -- How the tally of lines ends, of which `first` is the number of the first, in an input of so many bytes.
 abbrev pub IsTallied : List Slot → ℕ → ℕ → List (List ℕ) → Type 0 → List ℕ → List ℕ → Status → Type 0
-IsTallied slots first total lines IsTold old new Done = AreGood slots lines × Writes IsTold old new (all_lines slots (events_of slots lines))
+IsTallied slots first total lines IsTold old new Done = (total < 2 ^ 40) × AreGood slots lines × Writes IsTold old new (all_lines slots (events_of slots lines))
 IsTallied slots first total lines IsTold old new (BadInput place code) = IsRefused slots first lines IsTold old new place code ⊎ IsTooLong slots total lines IsTold old new place code
 IsTallied slots first total lines IsTold old new ReadFault = IsStopped slots lines IsTold old new
 IsTallied slots first total lines IsTold old new WriteFault = IsCutShort slots lines IsTold old new

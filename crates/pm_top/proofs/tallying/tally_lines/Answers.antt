@@ -1,4 +1,4 @@
-use Rattle.std.proofs.Common.{◌+◌, ℕ, List, length, Ok, Err, inl, refl, ◌∙◌, ap, subst, arith}
+use Rattle.std.proofs.Common.{◌≡◌, ◌<◌, ◌^◌, ◌+◌, ℕ, List, length, Ok, Err, inl, refl, ◌∙◌, ap, subst, arith}
 use Rattle.pm_base.specs.Line.{lines_of}
 use Rattle.pm_base.specs.Feed.{left_to, IsNextLine}
 use Rattle.pm_base.specs.declared.line.Line.{Line}
@@ -34,7 +34,9 @@ returns-in-Ok-End-clause-tallied g c = λ told.
     let before = left_to c.lines.feed (g.S.Source.left c.lines.input) in
     let end = subst (λ (l : Line). IsNextLine before l c.line.new.self.line (left_to c.line.new.self (g.S.Source.left c.line.new.source))) c.in-Ok-End.field-0-is (c.in-Ok-End.ensures.line told) in
     let progress = subst (λ (b : List ℕ). Progress (lines_of (left_to c.args.feed.now (g.S.Source.left c.args.input.now))) (lines_of b) c.lines.counting c.lines.place g.K.Sink.IsTold (g.K.Sink.written c.args.output.now) (g.K.Sink.written c.lines.output)) end.0 (c.lines.invariant.so_far told) in
-    finished _ c.lines.counting c.lines.place _ g.K.Sink.IsTold (g.K.Sink.written c.args.output.now) (g.K.Sink.written c.lines.output) (g.K.Sink.written c.finish.new.output) c.finish.result progress c.finish.ensures.finished
+    let none : length before ≡ 0 = ap length end.0 in
+    let few : c.args.feed.now.given + length (left_to c.args.feed.now (g.S.Source.left c.args.input.now)) < 2 ^ 40 = omega (arith, c.lines.invariant.total told, none, c.line.ensures.end (c.in-Ok-End.is ∙ ap (λ (l : Line). Ok l) c.in-Ok-End.field-0-is)) in
+    finished _ c.lines.counting c.lines.place _ g.K.Sink.IsTold (g.K.Sink.written c.args.output.now) (g.K.Sink.written c.lines.output) (g.K.Sink.written c.finish.new.output) c.finish.result few progress c.finish.ensures.finished
 
 pub lines-preserved : goal.lines-preserved
 lines-preserved g c =
