@@ -191,6 +191,12 @@ fn a_tally_has_a_cell_for_each_slot(rt: HostRuntime) -> Result<(), Fail> {
     assert!(rt; tally.len() == 3);
     assert_eq!(rt; tally.get(1), cell);
     tally.clear();
+    assert!(rt; tally.len() == 3);
+    let empty = tally.get(2);
+    assert!(rt; empty.n == 0 && empty.sum == 0);
+    tally.add(2, 5);
+    assert_eq!(rt; tally.cells().last().map(|cell| cell.sum), Some(5));
+    tally.clear();
     assert_eq!(rt; tally.cells(), [Cell::empty(); 3].as_slice());
     Ok(())
 }
