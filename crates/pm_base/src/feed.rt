@@ -60,7 +60,7 @@ impl Model for Feed {
 }
 
 impl Feed {
-    /// A feed that has read nothing.
+    /// A feed that has read nothing. No later call takes memory.
     pub fn new(alloc: Global) -> Result<Feed, AllocError>
         ensures { IfOk result (λ feed. feed ≡ record { given = 0; buffered = []; line = []; ended = false }) }
     {
