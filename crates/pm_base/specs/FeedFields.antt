@@ -3,6 +3,7 @@ use Rattle.std.specs.Prelude.{◌≡◌, ◌-◌, ◌<◌, ◌≤◌, ◌^◌, t
 use Rattle.pm_base.specs.Feed.{FeedState}
 use Rattle.pm_base.specs.declared.feed.Feed.TheInside.{Inside}
 
+-- The state that the fields hold.
 abbrev pub feed_state : Inside → FeedState
 feed_state f = record {
   given = f.read - (f.end - f.start);

@@ -1,5 +1,5 @@
 -- What the implementations in memory hold.
-use Rattle.std.specs.Prelude.{ℕ, List, drop}
+use Rattle.std.specs.Prelude.{ℕ, List, drop, vec_capacity}
 use Rattle.pm_base.specs.declared.source.MemSource.{MemSource}
 use Rattle.pm_base.specs.declared.sink.MemSink.{MemSink}
 
@@ -11,6 +11,10 @@ source_left s = drop s.at s.bytes.items
 abbrev pub source_faults : MemSource → ℕ
 source_faults s = s.faults
 
+-- The numbers of the calls of a source that fail, counted from 1.
+abbrev pub source_fails : MemSource → List ℕ
+source_fails s = s.fails.items
+
 -- The bytes that were written to a sink.
 abbrev pub sink_written : MemSink → List ℕ
 sink_written s = s.bytes.items
@@ -18,3 +22,11 @@ sink_written s = s.bytes.items
 -- How often a sink has failed.
 abbrev pub sink_faults : MemSink → ℕ
 sink_faults s = s.faults
+
+-- How many bytes a sink has room for, those written among them.
+abbrev pub sink_room : MemSink → ℕ
+sink_room s = vec_capacity s.bytes
+
+-- The numbers of the calls of a sink that fail, counted from 1.
+abbrev pub sink_fails : MemSink → List ℕ
+sink_fails s = s.fails.items

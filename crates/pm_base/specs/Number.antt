@@ -7,10 +7,11 @@ use Rattle.std.specs.Char.{is_ascii_digit}
 abbrev pub is_number : ℕ → List ℕ → Bool
 is_number most bytes = (nat_le 1 (length bytes) && nat_le (length bytes) most) && list_all is_ascii_digit bytes
 
--- The number that digits stand for, the greatest place first.
+-- A number with one digit more behind it.
 abbrev pub with_digit : ℕ → ℕ → ℕ
 with_digit n digit = 10 * n + (digit - 48)
 
+-- The number that digits stand for, the greatest place first.
 abbrev pub number_of : List ℕ → ℕ
 number_of digits = fold with_digit 0 digits
 

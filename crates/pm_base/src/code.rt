@@ -5,183 +5,183 @@ ghost use Rattle.pm_base.specs.Code.{code_name};
 /// Why a request or a line of input is refused. A code's letter tells what is refused, and its number by which rule.
 #[derive(Clone, Copy, Debug, PartialEq, Eq)]
 pub enum Code {
-    /// A refusal of a distinguished name or the object tree.
+    /// A part of a distinguished name, its class or its id is empty.
     N1,
-    /// A refusal of a distinguished name or the object tree.
+    /// A part of a distinguished name has no `=`.
     N2,
-    /// A refusal of a distinguished name or the object tree.
+    /// A part of a distinguished name has a character out of its alphabet.
     N3,
-    /// A refusal of a distinguished name or the object tree.
+    /// A distinguished name has over 256 bytes, or a class or an id in it over 64.
     N4,
-    /// A refusal of a distinguished name or the object tree.
+    /// A distinguished name has over 8 parts.
     N5,
-    /// A refusal of a distinguished name or the object tree.
+    /// The classes of a distinguished name are no path of the containment.
     N6,
-    /// A refusal of a distinguished name or the object tree.
+    /// The parent of an object does not stand.
     N7,
-    /// A refusal of a distinguished name or the object tree.
+    /// An object of this name stands.
     N8,
-    /// A refusal of a distinguished name or the object tree.
+    /// 256 objects stand.
     N9,
-    /// A refusal of a distinguished name or the object tree.
+    /// A second ManagedElement is added, or an inventory has none.
     N10,
-    /// A refusal of an inventory.
+    /// A line of an inventory has none of its forms, or over 2,048 bytes.
     I1,
-    /// A refusal of an inventory.
+    /// The input ends before the inventory does.
     I2,
-    /// A refusal of an inventory.
+    /// The store was begun with another inventory.
     I3,
-    /// A refusal of a measure.
+    /// The name or the class of a measure is not permitted.
     M1,
-    /// A refusal of a measure.
+    /// The kind, the reduction and the number of a measure do not go together.
     M2,
-    /// A refusal of a measure.
+    /// A measure of this name stands.
     M3,
-    /// A refusal of a measure.
+    /// 64 measures stand.
     M4,
-    /// A refusal of a measure.
+    /// An inventory has no slot, or over 4,096.
     M5,
-    /// A refusal of a job or a monitor.
+    /// The id or the body of a job or a monitor is not in its grammar.
     J1,
-    /// A refusal of a job or a monitor.
+    /// A job or a monitor of this id stands and was made with other content.
     J2,
-    /// A refusal of a job or a monitor.
+    /// A metric is neither a name nor a family of the catalogue.
     J3,
-    /// A refusal of a job or a monitor.
+    /// An object or a root is not in the tree.
     J4,
-    /// A refusal of a job or a monitor.
+    /// A metric has no measured object.
     J5,
-    /// A refusal of a job or a monitor.
+    /// The granularity period is not permitted.
     J6,
-    /// A refusal of a job or a monitor.
+    /// The reporting period is not permitted.
     J7,
-    /// A refusal of a job or a monitor.
+    /// 32 jobs stand.
     J8,
-    /// A refusal of a job or a monitor.
+    /// The load of all jobs and monitors would be over 4,194,304.
     J9,
-    /// A refusal of a job or a monitor.
+    /// No job or monitor of this id stands.
     J10,
-    /// A refusal of a job or a monitor.
+    /// The list of thresholds is not in its grammar, or a hysteresis is over its threshold.
     J11,
-    /// A refusal of a job or a monitor.
+    /// 32 monitors stand.
     J12,
-    /// A refusal of the bank.
+    /// A bank is asked for no slot, or over 4,096.
     B1,
-    /// A refusal of the bank.
+    /// A bank is asked for no worker, or over 64.
     B2,
-    /// A refusal of the bank.
+    /// As many passes are out as there are workers.
     B3,
-    /// A refusal of the bank.
+    /// The quotas that are granted would be over 1,073,741,824.
     B4,
-    /// A refusal of the bank.
+    /// A pass has counted as many events as its quota.
     B5,
-    /// A refusal of a file name.
+    /// The type of a file name is neither `A` nor `C`.
     F1,
-    /// A refusal of a file name.
+    /// The start date of a file name is no date from 1970-01-01 to 9999-12-31.
     F2,
-    /// A refusal of a file name.
+    /// The start time of a file name is no time of the day.
     F3,
-    /// A refusal of a file name.
+    /// The end date of a file name is no date, or stands where the type is `A`.
     F4,
-    /// A refusal of a file name.
+    /// The end time of a file name is no time of the day, or the length of its period is not permitted.
     F5,
-    /// A refusal of a file name.
+    /// The job id of a file name is not in its grammar.
     F6,
-    /// A refusal of a file name.
+    /// The unique id of a file name is not in its grammar.
     F7,
-    /// A refusal of a report.
+    /// A report is no JSON text.
     R1,
-    /// A refusal of a report.
+    /// An object in a report has not exactly its keys.
     R2,
-    /// A refusal of a report.
+    /// A value in a report has the wrong type.
     R3,
-    /// A refusal of a report.
+    /// A number in a report is not whole, or out of its range.
     R4,
-    /// A refusal of a report.
+    /// Lengths or times in a report disagree.
     R5,
-    /// A refusal of a subscription.
+    /// 8 subscriptions stand.
     P1,
-    /// A refusal of a subscription.
+    /// No subscription of this id stands.
     P2,
-    /// A refusal of a subscription.
+    /// The id or the body of a subscription is not in its grammar.
     P3,
-    /// A refusal of a subscription.
+    /// A subscription of this id stands and was made with other content.
     P4,
-    /// A refusal of an event.
+    /// A line of events has not the form, or over 2,048 bytes.
     E1,
-    /// A refusal of an event.
+    /// A line of events names no slot.
     E2,
-    /// A refusal of an event.
+    /// The value of an event is over 1,048,575.
     E3,
-    /// A refusal of an event.
+    /// 1,073,741,824 events are registered in the tick.
     E4,
-    /// A refusal of an event.
+    /// The moment of an event is earlier than that of the last one.
     E5,
-    /// A refusal of an event.
+    /// The object of an event is marked as gone.
     E6,
-    /// A refusal of an HTTP request or its framing.
+    /// The bytes read are the beginning of no head of a request.
     H1,
-    /// A refusal of an HTTP request or its framing.
+    /// The head of a request has over 16,384 bytes or over 64 fields.
     H2,
-    /// A refusal of an HTTP request or its framing.
+    /// The body of a request has over 16,777,216 bytes.
     H3,
-    /// A refusal of an HTTP request or its framing.
+    /// A request has a Transfer-Encoding field.
     H4,
-    /// A refusal of an HTTP request or its framing.
+    /// No resource has this path.
     H5,
-    /// A refusal of an HTTP request or its framing.
+    /// The resource does not take this method.
     H6,
-    /// A refusal of an HTTP request or its framing.
+    /// A request has two Content-Length fields, one that is no number of 1 to 12 digits, or none where its method wants one.
     H7,
-    /// A refusal of an HTTP request or its framing.
+    /// The Pm-Moment field of a request is no moment of 1 to 12 digits.
     H8,
-    /// A refusal of an HTTP request or its framing.
+    /// The input ends inside a request.
     H9,
-    /// A refusal of a file or a listing.
+    /// No file of this name is listed.
     L1,
-    /// A refusal of a file or a listing.
+    /// The query of a listing is not in its grammar.
     L2,
-    /// A refusal of a notice, a listing or a file of the collector.
+    /// A line of the collector is no notice, or has over 2,048 bytes.
     C1,
-    /// A refusal of a notice, a listing or a file of the collector.
+    /// A body is no listing.
     C2,
-    /// A refusal of a notice, a listing or a file of the collector.
+    /// A fetched file is no report, or a report of another name.
     C3,
-    /// A refusal of a notice, a listing or a file of the collector.
+    /// A fetched file is not wanted.
     C4,
-    /// A refusal of a peer's reply.
+    /// A reply of a peer has not the form, or its status is not 200.
     X1,
-    /// A refusal of the input's length.
+    /// The input has passed 1,099,511,627,776 bytes.
     Z1,
-    /// A refusal of the presence of an object.
+    /// A request on an object has a faulty distinguished name or a body.
     O1,
-    /// A refusal of the presence of an object.
+    /// The inventory has no such object.
     O2,
-    /// A refusal of the presence of an object.
+    /// The ManagedElement can't be marked as gone.
     O3,
-    /// A refusal of the presence of an object.
+    /// The object is marked as gone already.
     O4,
-    /// A refusal of a stream.
+    /// A message of a stream has neither of its forms.
     S1,
-    /// A refusal of a stream.
+    /// A stream names no job that stands.
     S2,
-    /// A refusal of a stream.
+    /// The stream watches this job already.
     S3,
-    /// A refusal of a ratio.
+    /// A line of ratios has not the form, or over 2,048 bytes.
     K1,
-    /// A refusal of a ratio.
+    /// A ratio of this name was given.
     K2,
-    /// A refusal of a ratio.
+    /// 64 ratios stand.
     K3,
-    /// A refusal of a domain file.
+    /// A line of elements has not the form, or over 2,048 bytes.
     G1,
-    /// A refusal of a domain file.
+    /// An element of this id was given.
     G2,
-    /// A refusal of a domain file.
+    /// No element was given, or over 64.
     G3,
-    /// A refusal of a domain file.
+    /// A peer lists a file of another element.
     G4,
-    /// Want of memory.
+    /// Memory is wanted.
     MEM,
 }
 

@@ -5,14 +5,15 @@
 //! most, so every loop over a feed ends.
 ghost use Rattle.std.specs.Prelude.{◌≡◌, ◌+◌, ◌-◌, ◌^◌, ◌<◌, ◌≤◌, ◌⊎◌, ◌↔◌, ℕ, List, true, false, [], ◌++◌, length, vec_len, take, slice_range, min, IfOk, IfErr, OnOk, OnErr, IfSome, IfNone, OnSome, IsErrOf, MatchResult, MatchOption, Some, Ok, Err};
 ghost use Rattle.std.specs.Io.{ReadsAtMost};
-ghost use Rattle.pm_base.specs.Causes.{Rose, HasCause};
+ghost use Rattle.pm_base.specs.Causes.{Rose};
 ghost use Rattle.pm_base.specs.Outside.{Gives};
 ghost use Rattle.pm_base.specs.Line.{HasNoLine};
 ghost use Rattle.pm_base.specs.Feed.{FeedState, left_to, KnowsEnd, IsNextLine, MOST_READ, MeetsLimit, IsSpent};
 
+use crate::buffer::{move_to_front, read_behind};
 use crate::copying::copy_front;
 use crate::line::{Found, find_line};
-use crate::{Failed, Line, Source};
+use crate::{Line, Source};
 use std::alloc::{AllocError, Global};
 use std::marker::Model;
 
@@ -59,7 +60,7 @@ impl Model for Feed {
 }
 
 impl Feed {
-    /// A feed that has read nothing.
+    /// A feed that has read nothing. No later call takes memory.
     pub fn new(alloc: Global) -> Result<Feed, AllocError>
         ensures { IfOk result (λ feed. feed ≡ record { given = 0; buffered = []; line = []; ended = false }) }
     {
@@ -107,6 +108,8 @@ impl Feed {
         ensures limit { S.IsTold → result ≡ Err FeedError.Limit → MeetsLimit self.old (S.left source.old) }
         ensures within { S.IsTold → OnOk result (MeetsLimit self.old (S.left source.old) → ⊥) }
 
+        // What the buffer tells is told, whatever the source does.
+        ensures wanted { OnErr result (HasNoLine self.old.buffered × (self.old.ended ≡ false)) }
         ensures failed { result ≡ Err FeedError.Failed → Rose (S.faults source.old) (S.faults source.new) }
         ensures later { S.faults source.old ≤ S.faults source.new }
     {
@@ -132,6 +135,8 @@ impl Feed {
         ensures limit { result ≡ Err FeedError.Limit → IsSpent self.old × (0 < length buf.old) }
         ensures within { OnOk result (IsSpent self.old → 0 < length buf.old → ⊥) }
 
+        // What the buffer holds is given, whatever the source does.
+        ensures wanted { OnErr result ((self.old.buffered ≡ []) × (self.old.ended ≡ false) × (0 < length buf.old)) }
         ensures failed { result ≡ Err FeedError.Failed → Rose (S.faults source.old) (S.faults source.new) }
         ensures later { S.faults source.old ≤ S.faults source.new }
     {
@@ -155,6 +160,7 @@ impl Feed {
         ensures knows_end { S.IsTold → KnowsEnd self.new (S.left source.new) }
         ensures limit { result ≡ Err FeedError.Limit → IsSpent self.old }
         ensures within { OnOk result (IsSpent self.old → ⊥) }
+        ensures wanted { OnErr result ((self.old.buffered ≡ []) × (self.old.ended ≡ false)) }
         ensures failed { result ≡ Err FeedError.Failed → Rose (S.faults source.old) (S.faults source.new) }
         ensures later { S.faults source.old ≤ S.faults source.new }
     {
@@ -246,34 +252,6 @@ impl Feed {
             Err(_) => Err(FeedError::Failed),
         }
     }
-}
-
-// Moves the bytes from `start` to `end` to the front.
-fn move_to_front(buffer: &mut Vec<u8>, start: usize, end: usize)
-    requires ordered { start ≤ end }
-    requires within { end ≤ vec_len buffer.old }
-    ensures moved { slice_range buffer.new.items 0 (end - start) ≡ slice_range buffer.old.items start end }
-    ensures room { vec_len buffer.new ≡ vec_len buffer.old }
-{
-    buffer.copy_within(start..end, 0);
-}
-
-// Reads at most so many bytes behind the first `at` of the buffer.
-fn read_behind<S: Source>(
-    source: &mut S,
-    buffer: &mut Vec<u8>,
-    at: usize,
-    most: usize,
-) -> Result<usize, Failed>
-    requires some { 0 < most }
-    requires within { at + most ≤ vec_len buffer.old }
-    ensures bound { IfOk result (λ n. n ≤ most) }
-    ensures room { vec_len buffer.new ≡ vec_len buffer.old }
-    ensures front { take at buffer.new.items ≡ take at buffer.old.items }
-    ensures told { S.IsTold → MatchResult result (λ n. (S.left source.old ≡ slice_range buffer.new.items at (at + n) ++ S.left source.new) × (n ≡ 0 → S.left source.old ≡ [])) (λ _. S.left source.new ≡ S.left source.old) }
-    ensures cause { HasCause (S.faults source.old) (S.faults source.new) result }
-{
-    source.read(&mut buffer[at..at + most])
 }
 
 fn room() -> usize

@@ -2,6 +2,7 @@
 #![tactic(auto)]
 
 mod blob;
+mod buffer;
 mod class;
 mod code;
 mod copying;
@@ -14,6 +15,8 @@ mod outside;
 mod pieces;
 mod sink;
 mod source;
+#[cfg(test)]
+mod tests;
 mod text;
 
 pub use blob::Blob;

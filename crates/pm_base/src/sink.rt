@@ -15,11 +15,13 @@ pub struct MemSink {
 }
 
 impl MemSink {
-    ghost use Rattle.pm_base.specs.Memory.{sink_written, sink_faults};
+    ghost use Rattle.pm_base.specs.Memory.{sink_written, sink_faults, sink_room, sink_fails};
 
     /// An empty sink with room for so many bytes, of whose calls those of these numbers fail, counted from 1.
     pub fn new(alloc: Global, room: u64, fails: &[u64]) -> Result<MemSink, AllocError>
-        ensures { IfOk result (λ sink. (sink_written sink ≡ []) × (sink_faults sink ≡ 0)) }
+        ensures empty { IfOk result (λ sink. (sink_written sink ≡ []) × (sink_faults sink ≡ 0)) }
+        ensures room { IfOk result (λ sink. sink_room sink ≡ room) }
+        ensures fails { IfOk result (λ sink. sink_fails sink ≡ fails.now) }
     {
         Ok(MemSink {
             bytes: Vec::with_capacity(alloc, room as usize)?,

@@ -18,11 +18,12 @@ pub struct MemSource {
 }
 
 impl MemSource {
-    ghost use Rattle.pm_base.specs.Memory.{source_left, source_faults};
+    ghost use Rattle.pm_base.specs.Memory.{source_left, source_faults, source_fails};
 
     /// A source with these bytes, of whose calls those of these numbers fail, counted from 1.
     pub fn new(alloc: Global, bytes: &[u8], fails: &[u64]) -> Result<MemSource, AllocError>
-        ensures { IfOk result (λ source. (source_left source ≡ bytes.now) × (source_faults source ≡ 0)) }
+        ensures content { IfOk result (λ source. (source_left source ≡ bytes.now) × (source_faults source ≡ 0)) }
+        ensures fails { IfOk result (λ source. source_fails source ≡ fails.now) }
     {
         Ok(MemSource {
             bytes: Vec::from_slice(alloc, bytes)?,

@@ -22,7 +22,7 @@ impl Model for Text {
 
 impl Text {
     /// The most bytes that a text has.
-    pub const MOST: usize = 65535;
+    pub const MOST: usize = 65_535;
 
     /// The text without bytes. It takes no memory.
     pub fn new(alloc: Global) -> Text

@@ -13,6 +13,7 @@ abbrev pub event_in_slot : LineEvent → Option ℕ → Result Event Code
 event_in_slot e None = Err E2
 event_in_slot e (Some slot) = if nat_le e.value 1048575 then Ok (record { moment = e.moment; slot = slot; value = e.value }) else Err E3
 
+-- What a line says, once its words were read.
 abbrev pub event_of : List Slot → Option LineEvent → Result Event Code
 event_of slots None = Err E1
 event_of slots (Some e) = event_in_slot e (slot_place slots e.object e.metric)
@@ -22,11 +23,12 @@ event_of slots (Some e) = event_in_slot e (slot_place slots e.object e.metric)
 abbrev pub read_event : List Slot → List ℕ → Result Event Code
 read_event slots line = event_of slots (event_line line)
 
--- The events of lines.
+-- The event, where a line has one.
 abbrev pub event_of_result : Result Event Code → Option Event
 event_of_result (Ok e) = Some e
 event_of_result (Err code) = None
 
+-- The events of lines, in order.
 abbrev pub events_of : List Slot → List (List ℕ) → List Event
 events_of slots lines = filter_map (λ line. event_of_result (read_event slots line)) lines
 
@@ -52,6 +54,7 @@ order_refusal earlier e =
     if nat_lt e.moment (last_moment earlier) then Some E5
     else (if nat_le MOST_REGISTERED (length (events_in earlier (tick_of e.moment))) then Some E4 else None)
 
+-- Why what a line says is refused behind earlier events.
 abbrev pub refusal_of : List Event → Result Event Code → Option Code
 refusal_of earlier (Err code) = Some code
 refusal_of earlier (Ok e) = order_refusal earlier e

@@ -5,7 +5,7 @@
 pub struct Event {
     /// Seconds since 1970-01-01 00:00 UTC.
     pub moment: u64,
-    /// The place of the metric and the object in the list of slots, from 0.
+    /// The place of the pair of metric and measured object in the list of slots, from 0.
     pub slot: u16,
     /// The increment, the reading, the quantity or the sample, by the metric's kind: 0 to 1,048,575.
     pub value: u32,

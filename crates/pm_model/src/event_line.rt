@@ -4,23 +4,24 @@ ghost use Rattle.pm_model.specs.EventLine.{words_of, event_line, event_of_words}
 
 use pm_base::{cut_at, read_moment, read_number};
 
-/// The words of a line of events, read.
+/// What a line of events says. Whether its names are those of a slot, and its value is in range, isn't looked at.
 #[derive(Clone, Copy, Debug)]
 pub struct EventLine<'a> {
     /// Seconds since 1970-01-01 00:00 UTC.
     pub moment: u64,
-    /// A text where the distinguished name of an object stands.
+    /// One byte or more, where the distinguished name of the measured object stands.
     pub object: &'a [u8],
-    /// A text where the name of a measurement stands.
+    /// One byte or more, where the name of the measurement stands.
     pub metric: &'a [u8],
-    /// A number of up to 10 digits.
+    /// The number of 1 to 10 digits, up to 9,999,999,999.
     pub value: u64,
 }
 
-/// The longest line of events, in bytes.
-pub const LONGEST_LINE: usize = 2_048;
+// The longest line of events, in bytes.
+const LONGEST_LINE: usize = 2_048;
 
-/// Reads a line `MOMENT LDN METRIC VALUE`, its line feed left out; none where it hasn't this form or has over 2,048 bytes.
+/// Reads a line `MOMENT LDN METRIC VALUE`, its line feed left out and single spaces between its words; none where it
+/// hasn't this form, or has over 2,048 bytes. The form is this project's own.
 pub fn read_event_line(line: &[u8]) -> Option<EventLine<'_>>
     ensures { MatchOption result (event_line line.now ≡ None) (λ e. event_line line.now ≡ Some (record { moment = e.moment; object = e.object.now; metric = e.metric.now; value = e.value })) }
 {

@@ -1,4 +1,5 @@
-use Rattle.std.proofs.Common.{◌≡◌, ◌+◌, ◌-◌, ◌*◌, ◌≤◌, ◌<◌, ◌⊎◌, true, cond, length}
+use Rattle.std.proofs.Common.{◌≡◌, ◌+◌, ◌-◌, ◌*◌, ◌≤◌, ◌<◌, ◌⊎◌, true, false, cond, length}
+use Rattle.pm_base.specs.Line.{HasNoLine}
 use Rattle.pm_base.specs.Feed.{left_to, KnowsEnd, MOST_READ}
 use Rattle.pm_base.proofs.feed.Feed.line.Given as goal
 
@@ -9,6 +10,7 @@ invariant-reads g l = record {
   stays : g.S.Source.IsTold → left_to l.self (g.S.Source.left l.source) ≡ left_to l.initial.self (g.S.Source.left l.initial.source);
   knows_end : g.S.Source.IsTold → KnowsEnd l.self (g.S.Source.left l.source);
   ended : l.initial.self.ended ≡ true → l.self.ended ≡ true;
+  wanted : (l.self ≡ l.initial.self) ⊎ (HasNoLine l.initial.self.buffered × (l.initial.self.ended ≡ false));
   before_limit : l.self.ended ≡ true → (l.initial.self.ended ≡ true) ⊎ (l.self.given + length l.self.buffered < MOST_READ);
 }
 
