@@ -1,0 +1,85 @@
+-- Names of report files (TS 32.432; the meaning of the types, the ranges of dates and times and the length rule are this
+-- project's own).
+use Rattle.std.specs.Prelude.{◌≡◌, ◌≤◌, ℕ, ◌+◌, ◌*◌, ◌/◌, ◌%◌, List, [], ◌∷◌, ◌++◌, codes, Contains}
+use Rattle.pm_base.specs.Calendar.{Date, IsDateOf}
+use Rattle.pm_base.specs.Names.{IsJobId, IsDnId}
+
+-- A: the file covers one granularity period. C: several.
+pub data FileType : Type 0 where
+  A : FileType
+  C : FileType
+
+-- What a name says: the type, the first moment and the end of the reporting period, the job's id, and the id of the
+-- ManagedElement.
+pub record FileNameParts : Type 0 where
+  pub kind : FileType
+  pub begin : ℕ
+  pub end : ℕ
+  pub job : List ℕ
+  pub unique : List ℕ
+
+-- The minutes that a file of a type may cover.
+abbrev pub IsFileLength : FileType → ℕ → Type 0
+IsFileLength A minutes = Contains (1 ∷ 5 ∷ 15 ∷ 30 ∷ 60 ∷ []) minutes
+IsFileLength C minutes = (2 ≤ minutes) × (minutes ≤ 1440) × (1440 % minutes ≡ 0)
+
+-- The minute of the day in which a moment lies.
+abbrev pub minute_of_day : ℕ → ℕ
+minute_of_day moment = moment % 86400 / 60
+
+-- The length rule: the reporting periods that a name can say. Within its day the start is a multiple of the length. The
+-- end is at most 9999-12-31 23:59.
+pub record IsFileSpan (kind : FileType) (begin end : ℕ) : Type 0 where
+  pub minutes : ℕ
+  pub permitted : IsFileLength kind minutes
+  pub end_is : end ≡ begin + 60 * minutes
+  pub whole : begin % 60 ≡ 0
+  pub aligned : minute_of_day begin % minutes ≡ 0
+  pub end_in : end ≤ 253402300740
+
+-- A name has a text.
+pub record IsNameable (name : FileNameParts) : Type 0 where
+  pub span : IsFileSpan name.kind name.begin name.end
+  pub job_is : IsJobId name.job
+  pub unique_is : IsDnId name.unique
+
+-- A number below 100 in two digits.
+abbrev pub two_digits : ℕ → List ℕ
+two_digits n = (48 + n / 10) ∷ (48 + n % 10) ∷ []
+
+-- YYYYMMDD.
+abbrev pub date_text : Date → List ℕ
+date_text date =
+    two_digits (date.year / 100) ++ two_digits (date.year % 100) ++ two_digits date.month
+    ++ two_digits date.day
+
+-- HHMM+0000 of a minute of the day.
+abbrev pub time_text : ℕ → List ℕ
+time_text minute = two_digits (minute / 60) ++ two_digits (minute % 60) ++ codes "+0000"
+
+-- The letter of a type.
+abbrev pub type_text : FileType → List ℕ
+type_text A = codes "A"
+type_text C = codes "C"
+
+-- The end's date stands in a name of type C alone. With A the end is the first moment after the start that has the
+-- end's time of day.
+abbrev pub end_date_text : FileType → Date → List ℕ
+end_date_text A last = []
+end_date_text C last = date_text last ++ codes "."
+
+-- Type Startdate . Starttime - [Enddate .] Endtime _- jobId _ UniqueId, given the dates of the start and the end.
+abbrev pub file_name_text : FileNameParts → Date → Date → List ℕ
+file_name_text name first last =
+    type_text name.kind ++ date_text first ++ codes "." ++ time_text (minute_of_day name.begin)
+    ++ codes "-" ++ end_date_text name.kind last ++ time_text (minute_of_day name.end)
+    ++ codes "_-" ++ name.job ++ codes "_" ++ name.unique
+
+-- The bytes are the file name that says this.
+pub record IsFileName (bytes : List ℕ) (name : FileNameParts) : Type 0 where
+  pub nameable : IsNameable name
+  pub first : Date
+  pub first_is : IsDateOf first name.begin
+  pub last : Date
+  pub last_is : IsDateOf last name.end
+  pub text : bytes ≡ file_name_text name first last
