@@ -20,6 +20,11 @@ days_before_year-next n =
     let here : 1970 + n - 1970 ≡ n = omega arith in
     rw (more, here) (sum-range-suc days_in_year 1970 n)
 
+-- the first year begins with the calendar
+pub days_before_year-first : days_before_year 1970 ≡ 0
+unfolding days_before_year
+days_before_year-first = refl
+
 -- the first month begins with the year
 pub days_before_month-first : (year : ℕ) → days_before_month year 1 ≡ 0
 unfolding days_before_month
