@@ -4,7 +4,7 @@ use Rattle.std.specs.List.{AllPass, prefix_len, take_while}
 use Rattle.std.proofs.lemmas.List.Elements.{All-head, All-tail}
 use Rattle.pm_base.specs.Calendar.{Date, IsDate, IsDateOf, days_in_month, day_number}
 use Rattle.pm_base.specs.Names.{is_id_char, IsJobId, IsDnId}
-use Rattle.pm_base.specs.FileName.{FileType, A, C, FileNameParts, IsFileLength, IsFileSpan, IsNameable, two_digits, date_text, time_text, minute_of_day, type_text, end_date_text, file_name_text, IsFileName}
+use Rattle.pm_base.specs.FileName.{FileType, A, C, FileNameParts, IsFileLength, IsFileSpan, IsNameable, two_digits, date_text, time_text, minute_of_day, type_text, IsEndDate, file_name_text, IsFileName}
 use Rattle.pm_base.proofs.CalendarLemmas.{date-same, day_number-injective}
 
 -- what follows an equal head
@@ -118,10 +118,10 @@ name-same p q kind begin end job unique =
     ∙ ap (λ (u : List ℕ). at q.kind q.begin q.end q.job u) unique)))
 
 -- what two equal texts of type A say
-same-A : (b e b' e' : ℕ) (j u j' u' : List ℕ) (f l f' l' : Date) → IsDate f → IsDate f' → IsJobId j → IsJobId j'
-    → file_name_text (record { kind = A; begin = b; end = e; job = j; unique = u }) f l ≡ file_name_text (record { kind = A; begin = b'; end = e'; job = j'; unique = u' }) f' l'
+same-A : (b e b' e' : ℕ) (j u j' u' : List ℕ) (f f' : Date) → IsDate f → IsDate f' → IsJobId j → IsJobId j'
+    → file_name_text (record { kind = A; begin = b; end = e; job = j; unique = u }) f [] ≡ file_name_text (record { kind = A; begin = b'; end = e'; job = j'; unique = u' }) f' []
     → (f ≡ f') × (minute_of_day b ≡ minute_of_day b') × (minute_of_day e ≡ minute_of_day e') × (j ≡ j') × (u ≡ u')
-same-A b e b' e' j u j' u' f l f' l' is_f is_f' is_j is_j' same =
+same-A b e b' e' j u j' u' f f' is_f is_f' is_j is_j' same =
     let date = date_text-front f f' _ _ is_f is_f' (tails same) in
     let start = time_text-front (minute_of_day b) (minute_of_day b') _ _ (omega arith) (omega arith) (tails date.1) in
     let end = time_text-front (minute_of_day e) (minute_of_day e') _ _ (omega arith) (omega arith) (tails start.1) in
@@ -130,7 +130,7 @@ same-A b e b' e' j u j' u' f l f' l' is_f is_f' is_j is_j' same =
 
 -- and of type C
 same-C : (b e b' e' : ℕ) (j u j' u' : List ℕ) (f l f' l' : Date) → IsDate f → IsDate f' → IsDate l → IsDate l' → IsJobId j → IsJobId j'
-    → file_name_text (record { kind = C; begin = b; end = e; job = j; unique = u }) f l ≡ file_name_text (record { kind = C; begin = b'; end = e'; job = j'; unique = u' }) f' l'
+    → file_name_text (record { kind = C; begin = b; end = e; job = j; unique = u }) f (date_text l ++ codes ".") ≡ file_name_text (record { kind = C; begin = b'; end = e'; job = j'; unique = u' }) f' (date_text l' ++ codes ".")
     → (f ≡ f') × (minute_of_day b ≡ minute_of_day b') × (l ≡ l') × (minute_of_day e ≡ minute_of_day e') × (j ≡ j') × (u ≡ u')
 same-C b e b' e' j u j' u' f l f' l' is_f is_f' is_l is_l' is_j is_j' same =
     let date = date_text-front f f' _ _ is_f is_f' (tails same) in
@@ -155,19 +155,29 @@ moment-same m n d e whole whole' on on' date minute =
     let at' = on'.day_is in
     omega (arith, moment-parts m whole, moment-parts n whole')
 
+-- the text of a name, with its Enddate written out
+text-with : (bytes : List ℕ) (name : FileNameParts) (is : IsFileName bytes name) (y : List ℕ) → is.end_date ≡ y → bytes ≡ file_name_text name is.first y
+text-with bytes name is y e = is.text ∙ ap (file_name_text name is.first) e
+
 one_name-kinds : (bytes : List ℕ) (k m : FileType) (b e b' e' : ℕ) (j u j' u' : List ℕ)
     → IsFileName bytes (record { kind = k; begin = b; end = e; job = j; unique = u }) → IsFileName bytes (record { kind = m; begin = b'; end = e'; job = j'; unique = u' })
     → (k ≡ m) × (b ≡ b') × (e ≡ e') × (j ≡ j') × (u ≡ u')
 one_name-kinds bytes A A b e b' e' j u j' u' is is' =
-    let same = same-A b e b' e' j u j' u' is.first is.last is'.first is'.last is.first_is.is_date is'.first_is.is_date is.nameable.job_is is'.nameable.job_is (sym is.text ∙ is'.text) in
+    let text = text-with bytes _ is [] is.end_date_is in
+    let text' = text-with bytes _ is' [] is'.end_date_is in
+    let same = same-A b e b' e' j u j' u' is.first is'.first is.first_is.is_date is'.first_is.is_date is.nameable.job_is is'.nameable.job_is (sym text ∙ text') in
     let begin : b ≡ b' = moment-same b b' is.first is'.first is.nameable.span.whole is'.nameable.span.whole is.first_is is'.first_is same.0 same.1 in
     let moved : IsFileSpan A b e' = subst (λ (x : ℕ). IsFileSpan A x e') (sym begin) is'.nameable.span in
     (refl, begin, end-A b e e' is.nameable.span moved same.2, same.3, same.4)
 one_name-kinds bytes C C b e b' e' j u j' u' is is' =
-    let same = same-C b e b' e' j u j' u' is.first is.last is'.first is'.last is.first_is.is_date is'.first_is.is_date is.last_is.is_date is'.last_is.is_date is.nameable.job_is is'.nameable.job_is (sym is.text ∙ is'.text) in (
+    let last = is.end_date_is in
+    let last' = is'.end_date_is in
+    let text = text-with bytes _ is _ last.2 in
+    let text' = text-with bytes _ is' _ last'.2 in
+    let same = same-C b e b' e' j u j' u' is.first last.0 is'.first last'.0 is.first_is.is_date is'.first_is.is_date last.1.is_date last'.1.is_date is.nameable.job_is is'.nameable.job_is (sym text ∙ text') in (
       refl,
       moment-same b b' is.first is'.first is.nameable.span.whole is'.nameable.span.whole is.first_is is'.first_is same.0 same.1,
-      moment-same e e' is.last is'.last (end-whole C b e is.nameable.span) (end-whole C b' e' is'.nameable.span) is.last_is is'.last_is same.2 same.3,
+      moment-same e e' last.0 last'.0 (end-whole C b e is.nameable.span) (end-whole C b' e' is'.nameable.span) last.1 last'.1 same.2 same.3,
       same.4,
       same.5,
     )
@@ -180,9 +190,19 @@ IsFileName-one_name bytes p q is is' =
     let same = one_name-kinds bytes p.kind q.kind p.begin p.end q.begin q.end p.job p.unique q.job q.unique is is' in
     name-same p q same.0 same.1 same.2 same.3 same.4
 
+-- a moment has one date
+date-one : (d e : Date) (m : ℕ) → IsDateOf d m → IsDateOf e m → d ≡ e
+date-one d e m on on' = day_number-injective d e on.is_date on'.is_date (on.day_is ∙ sym on'.day_is)
+
+-- an end has one Enddate
+end_date-one : (k : FileType) (end : ℕ) (x y : List ℕ) → IsEndDate k end x → IsEndDate k end y → x ≡ y
+end_date-one A end x y is is' = is ∙ sym is'
+end_date-one C end x y is is' =
+    is.2 ∙ (ap (λ (d : Date). date_text d ++ codes ".") (date-one is.0 is'.0 end is.1 is'.1) ∙ sym is'.2)
+
 -- one name has one text
 pub IsFileName-one_text : (a b : List ℕ) (name : FileNameParts) → IsFileName a name → IsFileName b name → a ≡ b
 IsFileName-one_text a b name is is' =
-    let first : is.first ≡ is'.first = day_number-injective is.first is'.first is.first_is.is_date is'.first_is.is_date (is.first_is.day_is ∙ sym is'.first_is.day_is) in
-    let last : is.last ≡ is'.last = day_number-injective is.last is'.last is.last_is.is_date is'.last_is.is_date (is.last_is.day_is ∙ sym is'.last_is.day_is) in
-    is.text ∙ (ap (λ (d : Date). file_name_text name d is.last) first ∙ (ap (λ (d : Date). file_name_text name is'.first d) last ∙ sym is'.text))
+    is.text
+    ∙ (ap (λ (d : Date). file_name_text name d is.end_date) (date-one is.first is'.first name.begin is.first_is is'.first_is)
+    ∙ (ap (file_name_text name is'.first) (end_date-one name.kind name.end is.end_date is'.end_date is.end_date_is is'.end_date_is) ∙ sym is'.text))

@@ -62,24 +62,24 @@ abbrev pub type_text : FileType → List ℕ
 type_text A = codes "A"
 type_text C = codes "C"
 
--- The end's date stands in a name of type C alone. With A the end is the first moment after the start that has the
--- end's time of day.
-abbrev pub end_date_text : FileType → Date → List ℕ
-end_date_text A last = []
-end_date_text C last = date_text last ++ codes "."
+-- Enddate stands in a name of type C alone. With A the end is the first moment after the start that has the end's time of
+-- day.
+abbrev pub IsEndDate : FileType → ℕ → List ℕ → Type 0
+IsEndDate A end text = text ≡ []
+IsEndDate C end text = (date : Date) × IsDateOf date end × (text ≡ date_text date ++ codes ".")
 
--- Type Startdate . Starttime - [Enddate .] Endtime _- jobId _ UniqueId, given the dates of the start and the end.
-abbrev pub file_name_text : FileNameParts → Date → Date → List ℕ
-file_name_text name first last =
+-- Type Startdate . Starttime - [Enddate .] Endtime _- jobId _ UniqueId, given the start's date and the text of Enddate.
+abbrev pub file_name_text : FileNameParts → Date → List ℕ → List ℕ
+file_name_text name first end_date =
     type_text name.kind ++ date_text first ++ codes "." ++ time_text (minute_of_day name.begin)
-    ++ codes "-" ++ end_date_text name.kind last ++ time_text (minute_of_day name.end)
-    ++ codes "_-" ++ name.job ++ codes "_" ++ name.unique
+    ++ codes "-" ++ end_date ++ time_text (minute_of_day name.end) ++ codes "_-" ++ name.job
+    ++ codes "_" ++ name.unique
 
 -- The bytes are the file name that says this.
 pub record IsFileName (bytes : List ℕ) (name : FileNameParts) : Type 0 where
   pub nameable : IsNameable name
   pub first : Date
   pub first_is : IsDateOf first name.begin
-  pub last : Date
-  pub last_is : IsDateOf last name.end
-  pub text : bytes ≡ file_name_text name first last
+  pub end_date : List ℕ
+  pub end_date_is : IsEndDate name.kind name.end end_date
+  pub text : bytes ≡ file_name_text name first end_date

@@ -14,9 +14,11 @@ pub enum FileKind {
 /// The end that lies furthest: 9999-12-31 23:59.
 const LAST_END: u64 = 253402300740;
 
-/// The minutes and the seconds of a day.
-const DAY_MINUTES: u64 = 1440;
-const DAY_SECONDS: u64 = 86400;
+/// The minutes of a day.
+pub(crate) const DAY_MINUTES: u64 = 1440;
+
+/// The seconds of a day.
+pub(crate) const DAY_SECONDS: u64 = 86400;
 
 impl FileKind {
     ghost use Rattle.pm_name.specs.Kind.{type_of};

@@ -3,6 +3,9 @@
 
 mod date;
 mod digits;
+mod error;
 mod kind;
+mod parts;
 
+pub use error::NameError;
 pub use kind::FileKind;
