@@ -6,6 +6,8 @@ mod digits;
 mod error;
 mod kind;
 mod parts;
+mod scan;
+mod write;
 
 pub use error::NameError;
 pub use kind::FileKind;
