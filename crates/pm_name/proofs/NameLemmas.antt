@@ -7,6 +7,7 @@ use Rattle.pm_base.specs.Names.{is_id_char, IsJobId, IsDnId}
 use Rattle.pm_base.specs.FileName.{FileType, A, C, FileNameParts, IsFileSpan, IsNameable, IsEndDate, IsFileName, date_text, time_text, type_text, minute_of_day, file_name_text}
 use Rattle.pm_base.proofs.FileNameLemmas.{end-whole, moment-parts, file_length-A}
 use Rattle.pm_name.specs.Reading.{ReadsType, ReadsDate, ReadsTime, ReadsStart, LooksLikeDate, ReadsEndDate, IsEnd, ReadsEnd, ReadsJob, ReadsUnique, ToStartDate, ToStart, ToEndDate, ToEnd, ToJob}
+use Rattle.pm_name.specs.Name.{IsTimesText}
 use Rattle.pm_name.proofs.PartLemmas.{like_looks}
 
 -- a moment made of a day and a minute
@@ -109,3 +110,16 @@ name-kinds bytes j u C begin end is =
 pub name-read : (bytes : List ℕ) (name : FileNameParts) → IsFileName bytes name → ToJob bytes name.kind name.begin name.end name.job (codes "_" ++ name.unique) × ReadsUnique (codes "_" ++ name.unique) name.unique
 name-read bytes name is =
     (name-kinds bytes name.job name.unique name.kind name.begin name.end is, record { unique_is = is.nameable.unique_is; text = refl })
+
+-- the text of the times, with the ids behind it, is the name's text
+pub written-name : (kind : FileType) (begin end : ℕ) (front job unique text : List ℕ) → IsTimesText kind begin end front → IsNameable (record { kind = kind; begin = begin; end = end; job = job; unique = unique })
+    → text ≡ front ++ codes "_-" ++ job ++ codes "_" ++ unique
+    → IsFileName text (record { kind = kind; begin = begin; end = end; job = job; unique = unique })
+written-name kind begin end front job unique text times nameable e = record {
+  nameable = nameable;
+  first = times.first;
+  first_is = times.first_is;
+  end_date = times.end_date;
+  end_date_is = times.end_date_is;
+  text = e ∙ ap (λ (x : List ℕ). x ++ codes "_-" ++ job ++ codes "_" ++ unique) times.text_is;
+}

@@ -1,5 +1,5 @@
 -- A text has one refusal, and none where it is a file name.
-use Rattle.std.proofs.Common.{◌≡◌, ℕ, zero, suc, ◌+◌, ◌-◌, ◌<◌, ◌≤◌, ◌⊎◌, inl, inr, List, ◌++◌, Option, codes, refl, sym, ap, ◌∙◌, subst, arith}
+use Rattle.std.proofs.Common.{◌≢◌, Result, Ok, Err, ◌≡◌, ℕ, zero, suc, ◌+◌, ◌-◌, ◌<◌, ◌≤◌, ◌⊎◌, inl, inr, List, ◌++◌, Option, codes, refl, sym, ap, ◌∙◌, subst, arith}
 use Rattle.std.proofs.lemmas.Bool.{cases_order}
 use Rattle.pm_base.specs.FileName.{FileType, FileNameParts, IsFileName}
 use Rattle.pm_name.specs.declared.error.NameError.{NameError}
@@ -142,3 +142,15 @@ Refuses-no_name b e h says =
     let more : (7 - suc (place e)) + suc (place e) ≡ 7 = omega arith in
     let all : HasParts 7 b = (name.kind, name.begin, name.end, name.job, codes "_" ++ name.unique, name.unique, read.0, read.1) in
     Refuses-stops b e h (HasParts-less (7 - suc (place e)) (suc (place e)) b (subst (λ (x : ℕ). HasParts x b) (sym more) all))
+
+-- an answer that is a refusal is the only one
+pub refused-exact : {X : Type 0} (b : List ℕ) (answer : Result X NameError) (first e : NameError) → answer ≡ Err first → Refuses b first → (answer ≡ Err e → Refuses b e) × (Refuses b e → answer ≡ Err e)
+refused-exact b answer first e is h = (
+  λ same. let one : first ≡ e = cc in subst (Refuses b) one h,
+  λ k. is ∙ ap (λ (x : NameError). Err x) (Refuses-one b first e h k),
+)
+
+-- and want of memory refuses no text that is a name
+pub memory-exact : {X : Type 0} (b : List ℕ) (answer : Result X NameError) (e : NameError) → answer ≡ Err Memory → SaysName b → e ≢ Memory → (answer ≡ Err e → Refuses b e) × (Refuses b e → answer ≡ Err e)
+memory-exact b answer e is says other =
+    (λ same. absurd (other cc), λ k. absurd (Refuses-no_name b e k says))

@@ -5,9 +5,11 @@ mod date;
 mod digits;
 mod error;
 mod kind;
+mod name;
 mod parts;
 mod scan;
 mod write;
 
 pub use error::NameError;
 pub use kind::FileKind;
+pub use name::FileName;

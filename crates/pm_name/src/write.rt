@@ -3,6 +3,7 @@ ghost use Rattle.std.specs.Prelude.{◌≡◌, ◌≤◌, ◌<◌, ◌+◌, ◌/
 ghost use Rattle.pm_base.specs.Calendar.{Date, IsDate, IsDateOf, day_number};
 ghost use Rattle.pm_base.specs.FileName.{IsFileSpan, IsEndDate, date_text, time_text, type_text, minute_of_day};
 ghost use Rattle.pm_name.specs.Kind.{type_of};
+ghost use Rattle.pm_name.specs.Name.{IsTimesText};
 
 use crate::FileKind;
 use crate::date::CalendarDate;
@@ -47,4 +48,24 @@ fn push_end_date(text: &mut Vec<u8>, kind: FileKind, end: u64) -> Result<(), All
             Ok(())
         }
     }
+}
+
+/// The text of a name up to Endtime.
+pub(crate) fn write_times(alloc: Global, kind: FileKind, begin: u64, end: u64) -> Result<Vec<u8>, AllocError>
+    requires begin_in { begin ≤ 253402300799 }
+    requires end_in { end ≤ 253402300799 }
+    ensures { IfOk result (λ text. IsTimesText (type_of kind) begin end text.items) }
+{
+    let mut text = Vec::new(alloc);
+    text.push(match kind {
+        FileKind::A => b'A',
+        FileKind::C => b'C',
+    })?;
+    push_date(&mut text, begin)?;
+    text.push(b'.')?;
+    push_time(&mut text, begin)?;
+    text.push(b'-')?;
+    push_end_date(&mut text, kind, end)?;
+    push_time(&mut text, end)?;
+    Ok(text)
 }
