@@ -121,3 +121,10 @@ day_number-injective a b is_a is_b e =
         ]
       ]
     ]
+
+-- the first and the last day, a leap day, and the days after the leap day of a century and after none
+pub known_days : (day_number (record { year = 1970; month = 1; day = 1 }) ≡ 0) × (day_number (record { year = 9999; month = 12; day = 31 }) ≡ 2_932_896)
+    × (day_number (record { year = 2024; month = 2; day = 29 }) ≡ 19_782) × (day_number (record { year = 2000; month = 3; day = 1 }) ≡ 11_017)
+    × (day_number (record { year = 2100; month = 3; day = 1 }) ≡ 47_541) × (day_number (record { year = 2023; month = 11; day = 14 }) ≡ 19_675)
+unfolding day_number days_before_year days_before_month
+known_days = (refl, refl, refl, refl, refl, refl)

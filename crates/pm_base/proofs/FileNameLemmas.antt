@@ -2,6 +2,9 @@
 use Rattle.std.proofs.Common.{◌≡◌, ℕ, zero, suc, ◌+◌, ◌-◌, ◌*◌, ◌/◌, ◌%◌, ◌<◌, ◌≤◌, ◌⊎◌, inl, inr, Bool, true, false, cond, List, [], ◌∷◌, ◌++◌, length, take, drop, get_or, refl, sym, ap, ◌∙◌, subst, arith, append_assoc, length-append, Contains, codes}
 use Rattle.std.specs.List.{AllPass, prefix_len, take_while}
 use Rattle.std.proofs.lemmas.List.Elements.{All-head, All-tail}
+use Rattle.std.proofs.Math.Nat.{mod-mod_of_dvd, mul-add-mod_self_left, div-add-mod, zero-mod, mul_assoc}
+use Rattle.std.proofs.lemmas.Nat.Gcd.{dvd_of_mod-eq-zero}
+use Rattle.pm_base.specs.Moment.{IsPeriod}
 use Rattle.pm_base.specs.Calendar.{Date, IsDate, IsDateOf, days_in_month, day_number}
 use Rattle.pm_base.specs.Names.{is_id_char, IsJobId, IsDnId}
 use Rattle.pm_base.specs.FileName.{FileType, A, C, FileNameParts, IsFileLength, IsFileSpan, IsNameable, two_digits, date_text, time_text, minute_of_day, type_text, IsEndDate, file_name_text, IsFileName}
@@ -206,3 +209,35 @@ IsFileName-one_text a b name is is' =
     is.text
     ∙ (ap (λ (d : Date). file_name_text name d is.end_date) (date-one is.first is'.first name.begin is.first_is is'.first_is)
     ∙ (ap (file_name_text name is'.first) (end_date-one name.kind name.end is.end_date is'.end_date is.end_date_is is'.end_date_is) ∙ sym is'.text))
+
+-- a length divides the day
+file_length-divides : (kind : FileType) (m : ℕ) → IsFileLength kind m → (0 < m) × (1440 % m ≡ 0)
+file_length-divides A m is =
+    elim (file_length-A m is) [
+      | inl h ↦ rw h (omega arith, refl)
+      | inr (inl h) ↦ rw h (omega arith, refl)
+      | inr (inr (inl h)) ↦ rw h (omega arith, refl)
+      | inr (inr (inr (inl h))) ↦ rw h (omega arith, refl)
+      | inr (inr (inr (inr h))) ↦ rw h (omega arith, refl)
+    ]
+file_length-divides C m is = let least = is.0 in (omega arith, is.2)
+
+-- a period that begins at a multiple of its length is one that a name can say
+pub IsFileSpan-period : (kind : FileType) (begin m : ℕ) → IsFileLength kind m → IsPeriod (60 * m) begin → begin + 60 * m ≤ 253402300799 → IsFileSpan kind begin (begin + 60 * m)
+IsFileSpan-period kind begin m length period last =
+    let divides = file_length-divides kind m length in
+    let q = begin / (60 * m) in
+    let aligned = period.1 in
+    let parts : begin ≡ 60 * (m * q) = omega (arith, div-add-mod begin (60 * m), mul_assoc 60 m q) in
+    let minute : minute_of_day begin ≡ (m * q) % 1440 = omega arith in
+    let same : (m * q) % 1440 % m ≡ (m * q) % m = mod-mod_of_dvd m (m * q) (dvd_of_mod-eq-zero m divides.1) in
+    let none : (m * q + 0) % m ≡ 0 % m = mul-add-mod_self_left m q 0 in
+    let zero_is : m * q ≡ m * q + 0 = omega arith in
+    record {
+      minutes = m;
+      permitted = length;
+      end_is = refl;
+      whole = omega arith;
+      aligned = ap (λ (x : ℕ). x % m) minute ∙ (same ∙ (ap (λ (x : ℕ). x % m) zero_is ∙ (none ∙ zero-mod m)));
+      end_in = omega arith;
+    }

@@ -1,6 +1,6 @@
 -- Names of report files (TS 32.432; the meaning of the types, the ranges of dates and times and the length rule are this
 -- project's own).
-use Rattle.std.specs.Prelude.{◌≡◌, ◌≤◌, ℕ, ◌+◌, ◌*◌, ◌/◌, ◌%◌, List, [], ◌∷◌, ◌++◌, codes, Contains}
+use Rattle.std.specs.Prelude.{◌≡◌, ◌≤◌, ℕ, ◌+◌, ◌*◌, ◌/◌, ◌%◌, List, [], ◌∷◌, ◌++◌, codes, Contains, Bool, if◌then◌else◌}
 use Rattle.pm_base.specs.Calendar.{Date, IsDateOf}
 use Rattle.pm_base.specs.Names.{IsJobId, IsDnId}
 
@@ -8,6 +8,10 @@ use Rattle.pm_base.specs.Names.{IsJobId, IsDnId}
 pub data FileType : Type 0 where
   A : FileType
   C : FileType
+
+-- The type of a file, by whether it covers one granularity period alone.
+abbrev pub file_type : Bool → FileType
+file_type one_period = if one_period then A else C
 
 -- What a name says: the type, the first moment and the end of the reporting period, the job's id, and the id of the
 -- ManagedElement.
@@ -83,3 +87,7 @@ pub record IsFileName (bytes : List ℕ) (name : FileNameParts) : Type 0 where
   pub end_date : List ℕ
   pub end_date_is : IsEndDate name.kind name.end end_date
   pub text : bytes ≡ file_name_text name first end_date
+
+-- The bytes are some file name.
+abbrev pub SaysFileName : List ℕ → Type 0
+SaysFileName bytes = (name : FileNameParts) × IsFileName bytes name

@@ -100,12 +100,12 @@ name-kinds : (bytes j u : List ℕ) (kind : FileType) (begin end : ℕ) → IsFi
 name-kinds bytes j u A begin end is =
     let behind = time_text (minute_of_day end) ++ (codes "_-" ++ (j ++ (codes "_" ++ u))) in
     let text : bytes ≡ file_name_text (record { kind = A; begin = begin; end = end; job = j; unique = u }) is.first [] = is.text ∙ ap (file_name_text (record { kind = A; begin = begin; end = end; job = j; unique = u }) is.first) is.end_date_is in
-    parts-of bytes behind j u A is.first begin end None is.nameable is.first_is (text ∙ rw append_assoc refl) (refl, time-no_date (minute_of_day end) _) (end-first begin end is.nameable.span)
+    parts-of bytes behind j u A is.first begin end None is.nameable is.first_is (text ∙ rw (append_assoc j (codes "_") u) refl) (refl, time-no_date (minute_of_day end) _) (end-first begin end is.nameable.span)
 name-kinds bytes j u C begin end is =
     let last = is.end_date_is in
     let behind = date_text last.0 ++ codes "." ++ (time_text (minute_of_day end) ++ (codes "_-" ++ (j ++ (codes "_" ++ u)))) in
     let text : bytes ≡ file_name_text (record { kind = C; begin = begin; end = end; job = j; unique = u }) is.first (date_text last.0 ++ codes ".") = is.text ∙ ap (file_name_text (record { kind = C; begin = begin; end = end; job = j; unique = u }) is.first) last.2 in
-    parts-of bytes behind j u C is.first begin end (Some (end / 86400)) is.nameable is.first_is (text ∙ rw append_assoc refl) (record { date = last.0; is_date = last.1.is_date; day_is = last.1.day_is; text = refl }) (moment-parts end (end-whole C begin end is.nameable.span))
+    parts-of bytes behind j u C is.first begin end (Some (end / 86400)) is.nameable is.first_is (text ∙ rw (append_assoc j (codes "_") u) refl) (record { date = last.0; is_date = last.1.is_date; day_is = last.1.day_is; text = refl }) (moment-parts end (end-whole C begin end is.nameable.span))
 
 pub name-read : (bytes : List ℕ) (name : FileNameParts) → IsFileName bytes name → ToJob bytes name.kind name.begin name.end name.job (codes "_" ++ name.unique) × ReadsUnique (codes "_" ++ name.unique) name.unique
 name-read bytes name is =

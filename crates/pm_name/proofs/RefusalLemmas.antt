@@ -1,10 +1,10 @@
 -- A text has one refusal, and none where it is a file name.
 use Rattle.std.proofs.Common.{◌≢◌, Result, Ok, Err, ◌≡◌, ℕ, zero, suc, ◌+◌, ◌-◌, ◌<◌, ◌≤◌, ◌⊎◌, inl, inr, List, ◌++◌, Option, codes, refl, sym, ap, ◌∙◌, subst, arith}
 use Rattle.std.proofs.lemmas.Bool.{cases_order}
-use Rattle.pm_base.specs.FileName.{FileType, FileNameParts, IsFileName}
+use Rattle.pm_base.specs.FileName.{FileType, FileNameParts, IsFileName, SaysFileName}
 use Rattle.pm_name.specs.declared.error.NameError.{NameError}
 use Rattle.pm_name.specs.declared.error.NameError.TheVariants.{F1, F2, F3, F4, F5, F6, F7, Memory}
-use Rattle.pm_name.specs.Reading.{ReadsType, ReadsDate, ReadsStart, ReadsEndDate, ReadsEnd, ReadsJob, ReadsUnique, ToStartDate, ToStart, ToEndDate, ToEnd, ToJob, Refuses, SaysName}
+use Rattle.pm_name.specs.Reading.{ReadsType, ReadsDate, ReadsStart, ReadsEndDate, ReadsEnd, ReadsJob, ReadsUnique, ToStartDate, ToStart, ToEndDate, ToEnd, ToJob, Refuses}
 use Rattle.pm_name.proofs.ReadingLemmas.{ReadsType-one, ToStartDate-one, ToStart-one, ToEndDate-one, ToEnd-one, ToJob-one, moved-end}
 use Rattle.pm_name.proofs.NameLemmas.{name-read}
 
@@ -134,7 +134,7 @@ place-le b F7 h = omega arith
 place-le b Memory h = absurd h
 
 -- a file name has none
-pub Refuses-no_name : (b : List ℕ) (e : NameError) → Refuses b e → ¬ SaysName b
+pub Refuses-no_name : (b : List ℕ) (e : NameError) → Refuses b e → ¬ SaysFileName b
 Refuses-no_name b e h says =
     let read = name-read b says.0 says.1 in
     let name = says.0 in
@@ -151,6 +151,6 @@ refused-exact b answer first e is h = (
 )
 
 -- and want of memory refuses no text that is a name
-pub memory-exact : {X : Type 0} (b : List ℕ) (answer : Result X NameError) (e : NameError) → answer ≡ Err Memory → SaysName b → e ≢ Memory → (answer ≡ Err e → Refuses b e) × (Refuses b e → answer ≡ Err e)
+pub memory-exact : {X : Type 0} (b : List ℕ) (answer : Result X NameError) (e : NameError) → answer ≡ Err Memory → SaysFileName b → e ≢ Memory → (answer ≡ Err e → Refuses b e) × (Refuses b e → answer ≡ Err e)
 memory-exact b answer e is says other =
     (λ same. absurd (other cc), λ k. absurd (Refuses-no_name b e k says))

@@ -4,7 +4,7 @@ use Rattle.std.specs.List.{AllPass, prefix_len}
 use Rattle.std.specs.Char.{is_ascii_digit}
 use Rattle.pm_base.specs.Calendar.{Date, IsDate, day_number}
 use Rattle.pm_base.specs.Names.{IsJobId, IsDnId, is_id_char}
-use Rattle.pm_base.specs.FileName.{FileType, A, C, FileNameParts, IsFileName, IsFileSpan, minute_of_day, date_text, time_text, type_text}
+use Rattle.pm_base.specs.FileName.{FileType, A, C, IsFileSpan, minute_of_day, date_text, time_text, type_text}
 use Rattle.pm_name.specs.declared.error.NameError.{NameError}
 use Rattle.pm_name.specs.declared.error.NameError.TheVariants.{F1, F2, F3, F4, F5, F6, F7, Memory}
 
@@ -123,7 +123,3 @@ Refuses bytes F7 =
     (kind : FileType) × (begin end : ℕ) × (job rest : List ℕ) × ToJob bytes kind begin end job rest
     × ((unique : List ℕ) → ¬ ReadsUnique rest unique)
 Refuses bytes Memory = ⊥
-
--- The text is a file name.
-abbrev pub SaysName : List ℕ → Type 0
-SaysName bytes = (name : FileNameParts) × IsFileName bytes name

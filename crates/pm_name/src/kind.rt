@@ -1,6 +1,6 @@
 //! The types of a report file, and the reporting periods that each may cover.
-ghost use Rattle.std.specs.Prelude.{◌≡◌, ◌↔◌, IsTrue, if◌then◌else◌};
-ghost use Rattle.pm_base.specs.FileName.{IsFileLength, IsFileSpan};
+ghost use Rattle.std.specs.Prelude.{◌≡◌, ◌↔◌, IsTrue};
+ghost use Rattle.pm_base.specs.FileName.{file_type, IsFileLength, IsFileSpan};
 
 /// The type of a report file (TS 32.432; which type is written when is this project's own).
 #[derive(Clone, Copy, Debug, PartialEq, Eq)]
@@ -22,6 +22,17 @@ pub(crate) const DAY_SECONDS: u64 = 86400;
 
 impl FileKind {
     ghost use Rattle.pm_name.specs.Kind.{type_of};
+
+    /// The type of a file, by whether its reporting period is one granularity period.
+    pub fn of_period(is_granularity_period: bool) -> FileKind
+        ensures { type_of result ≡ file_type is_granularity_period }
+    {
+        if is_granularity_period {
+            FileKind::A
+        } else {
+            FileKind::C
+        }
+    }
 
     /// Whether a file of this type may cover so many minutes.
     fn permits(self, minutes: u64) -> bool

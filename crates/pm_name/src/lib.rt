@@ -8,6 +8,8 @@ mod kind;
 mod name;
 mod parts;
 mod scan;
+#[cfg(test)]
+mod tests;
 mod write;
 
 pub use error::NameError;

@@ -1,6 +1,6 @@
 //! The name of a report file.
 ghost use Rattle.std.specs.Prelude.{◌≡◌, ◌≢◌, ◌↔◌, ℕ, List, Err, IsOk, IfOk, MatchResult, length, ◌≤◌};
-ghost use Rattle.pm_base.specs.FileName.{FileNameParts, IsFileName, IsNameable};
+ghost use Rattle.pm_base.specs.FileName.{FileNameParts, IsFileName, IsNameable, SaysFileName};
 ghost use Rattle.pm_name.specs.declared.error.NameError.{NameError as Refusal};
 
 use crate::scan::scan_name;
@@ -38,7 +38,7 @@ impl Model for FileName {
 impl FileName {
     ghost use Rattle.pm_name.specs.Kind.{type_of};
     ghost use Rattle.pm_name.specs.Name.{name_parts};
-    ghost use Rattle.pm_name.specs.Reading.{Refuses, SaysName};
+    ghost use Rattle.pm_name.specs.Reading.{Refuses};
 
     /// The name of a job's file. The ids are tested by `pm_base::is_job_id` and `pm_base::is_dn_id`, the period by
     /// `FileKind::can_span`.
@@ -58,8 +58,11 @@ impl FileName {
     /// Reads a text as a file name. A refusal takes no memory.
     pub fn read(alloc: Global, bytes: &[u8]) -> Result<FileName, NameError>
         ensures name { IfOk result (IsFileName bytes.now) }
+        ensures only { IfOk result (λ name. (other : FileNameParts) → IsFileName bytes.now other → other ≡ name) }
+
+        // A text is refused as its first part that fails says, and want of memory comes for no other text than a name.
         ensures refused { (e : Refusal) → e ≢ NameError.Memory → ((result ≡ Err e) ↔ Refuses bytes.now e) }
-        ensures memory { result ≡ Err NameError.Memory → SaysName bytes.now }
+        ensures memory { result ≡ Err NameError.Memory → SaysFileName bytes.now }
     {
         let scan = scan_name(bytes)?;
         let job = id_text(alloc, scan.job)?;
@@ -75,7 +78,7 @@ impl FileName {
 
     /// Whether `read` would take the text, or its refusal, without memory.
     pub fn check(bytes: &[u8]) -> Result<(), NameError>
-        ensures name { IsOk result ↔ SaysName bytes.now }
+        ensures name { IsOk result ↔ SaysFileName bytes.now }
         ensures refused { (e : Refusal) → ((result ≡ Err e) ↔ Refuses bytes.now e) }
     {
         match scan_name(bytes) {

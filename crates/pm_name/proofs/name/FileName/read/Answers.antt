@@ -1,5 +1,6 @@
 use Rattle.std.proofs.Common.{◌∙◌, ap}
 use Rattle.std.proofs.lemmas.Result.{err_from_is_err_and}
+use Rattle.pm_base.proofs.FileNameLemmas.{IsFileName-one_name}
 use Rattle.pm_name.proofs.RefusalLemmas.{refused-exact, memory-exact, Refuses-no_name}
 use Rattle.pm_name.proofs.name.FileName.read.Goals as goal
 
@@ -21,3 +22,7 @@ returns-in_err-unique-clause-refused c =
 pub returns-clause-refused : goal.returns-clause-refused
 returns-clause-refused c =
     λ e other. (λ same. cc, λ refused. absurd (Refuses-no_name _ e refused (_, c.in_ok-scan.ensures)))
+
+pub returns-clause-only : goal.returns-clause-only
+returns-clause-only c =
+    λ other is. rw (c.in_ok-job.ensures, c.in_ok-unique.ensures) (IsFileName-one_name _ other _ is c.in_ok-scan.ensures)
