@@ -1,13 +1,13 @@
 -- A file name's text says one name, and a name has one text.
-use Rattle.std.proofs.Common.{◌≡◌, ℕ, zero, suc, ◌+◌, ◌-◌, ◌*◌, ◌/◌, ◌%◌, ◌<◌, ◌≤◌, ◌⊎◌, inl, inr, Bool, true, false, cond, List, [], ◌∷◌, ◌++◌, length, take, drop, get_or, refl, sym, ap, ◌∙◌, subst, arith, append_assoc, length-append, Contains, codes}
-use Rattle.std.specs.List.{AllPass, prefix_len, take_while}
+use Rattle.std.proofs.Common.{◌≡◌, ℕ, zero, suc, ◌+◌, ◌*◌, ◌/◌, ◌%◌, ◌<◌, ◌≤◌, ◌⊎◌, inl, inr, Bool, true, List, [], ◌∷◌, ◌++◌, length, refl, sym, ap, ◌∙◌, subst, arith, append_assoc, codes}
+use Rattle.std.specs.List.{AllPass, prefix_len}
 use Rattle.std.proofs.lemmas.List.Elements.{All-head, All-tail}
 use Rattle.std.proofs.Math.Nat.{mod-mod_of_dvd, mul-add-mod_self_left, div-add-mod, zero-mod, mul_assoc}
 use Rattle.std.proofs.lemmas.Nat.Gcd.{dvd_of_mod-eq-zero}
 use Rattle.pm_base.specs.Moment.{IsPeriod}
 use Rattle.pm_base.specs.Calendar.{Date, IsDate, IsDateOf, days_in_month, day_number}
-use Rattle.pm_base.specs.Names.{is_id_char, IsJobId, IsDnId}
-use Rattle.pm_base.specs.FileName.{FileType, A, C, FileNameParts, IsFileLength, IsFileSpan, IsNameable, two_digits, date_text, time_text, minute_of_day, type_text, IsEndDate, file_name_text, IsFileName}
+use Rattle.pm_base.specs.Names.{is_id_char, IsJobId}
+use Rattle.pm_base.specs.FileName.{FileType, A, C, FileNameParts, IsFileLength, IsFileSpan, two_digits, date_text, time_text, minute_of_day, type_text, IsEndDate, file_name_text, IsFileName}
 use Rattle.pm_base.proofs.CalendarLemmas.{date-same, day_number-injective}
 
 -- what follows an equal head

@@ -1,17 +1,16 @@
 -- The day numbers of the definition are those of `jiff`.
-use Rattle.std.proofs.Common.{to_z, of_z, w8, w16, w32, Fits, ◌^◌, ◌≡◌, ℕ, zero, suc, ◌+◌, ◌-◌, ◌*◌, ◌<◌, ◌≤◌, refl, sym, ap, ◌∙◌, subst, arith, ℤ, pos, negsuc, ◌+ℤ◌, ◌-ℤ◌, ◌<ℤ◌, ◌≤ℤ◌, unsigned_abs}
+use Rattle.std.proofs.Common.{to_z, of_z, w8, w16, w32, Fits, ◌≡◌, ℕ, zero, suc, ◌+◌, ◌-◌, ◌<◌, ◌≤◌, refl, sym, ap, ◌∙◌, subst, arith, ℤ, pos, negsuc, ◌-ℤ◌, ◌≤ℤ◌}
 use Rattle.std.proofs.lemmas.Int.{by_lt_z}
 use Rattle.jiff_core.specs.Calendar as jiff
 use Rattle.jiff_core.specs.declared.civil.date.Date.{Date as JiffDate}
 use Rattle.jiff_core.specs.Date.{epoch_day}
 use Rattle.std.proofs.lemmas.Int.{ints}
-use Rattle.std.specs.Int.{Width}
 use lib.Dec.{T}
 use lib.Signed.{non_neg}
 use lib.IntN.{nat_abs}
 use Rattle.jiff_core.proofs.SignedLemmas.{signed_arith, back_small}
 use Rattle.jiff_core.proofs.CalendarLemmas.{days_from_civil-day_count, day_count-epoch, day_count-lt_year, days_of_months-zero}
-use Rattle.pm_base.specs.Calendar.{Date, IsDate, days_in_year, days_in_month, days_before_year, days_before_month, day_number}
+use Rattle.pm_base.specs.Calendar.{IsDate, days_in_year, days_in_month, days_before_year, days_before_month, day_number}
 use Rattle.pm_base.proofs.CalendarLemmas.{days_before_year-first, days_before_year-next, days_before_month-first, days_before_month-next}
 
 -- the days of the years before 1970

@@ -1,12 +1,9 @@
 -- The parts of a text, read to its end, are those of a file name, and a file name's text is read so.
-use Rattle.std.proofs.Common.{inl, inr, ◌≡◌, ℕ, ◌+◌, ◌*◌, ◌/◌, ◌%◌, ◌<◌, ◌≤◌, List, [], ◌∷◌, ◌++◌, Option, None, Some, codes, true, false, length, get_or, refl, sym, ap, ◌∙◌, subst, arith, append_assoc}
-use Rattle.std.specs.List.{prefix_len}
-use Rattle.std.proofs.lemmas.Grind.{common_steps}
-use Rattle.pm_base.specs.Calendar.{Date, IsDate, IsDateOf, day_number}
-use Rattle.pm_base.specs.Names.{is_id_char, IsJobId, IsDnId}
-use Rattle.pm_base.specs.FileName.{FileType, A, C, FileNameParts, IsFileSpan, IsNameable, IsEndDate, IsFileName, date_text, time_text, type_text, minute_of_day, file_name_text}
+use Rattle.std.proofs.Common.{inl, inr, ◌≡◌, ℕ, ◌+◌, ◌*◌, ◌/◌, ◌<◌, ◌≤◌, List, [], ◌++◌, Option, None, Some, codes, refl, sym, ap, ◌∙◌, arith, append_assoc}
+use Rattle.pm_base.specs.Calendar.{Date, IsDateOf}
+use Rattle.pm_base.specs.FileName.{FileType, A, C, FileNameParts, IsFileSpan, IsNameable, IsFileName, date_text, time_text, type_text, minute_of_day, file_name_text}
 use Rattle.pm_base.proofs.FileNameLemmas.{end-whole, moment-parts, file_length-A}
-use Rattle.pm_name.specs.Reading.{ReadsType, ReadsDate, ReadsTime, ReadsStart, LooksLikeDate, ReadsEndDate, IsEnd, ReadsEnd, ReadsJob, ReadsUnique, ToStartDate, ToStart, ToEndDate, ToEnd, ToJob}
+use Rattle.pm_name.specs.Reading.{ReadsType, ReadsDate, ReadsStart, LooksLikeDate, ReadsEndDate, IsEnd, ReadsEnd, ReadsJob, ReadsUnique, ToStartDate, ToStart, ToEndDate, ToEnd, ToJob}
 use Rattle.pm_name.specs.Name.{IsTimesText}
 use Rattle.pm_name.proofs.PartLemmas.{like_looks}
 

@@ -1,12 +1,12 @@
 -- What the parts of a text hold.
-use Rattle.std.proofs.Common.{◌⊎◌, inl, inr, [], ◌∷◌, length, take, drop, get_or, refl, ap, subst, codes, false, true, append_assoc, length-append, Bool, ◌≡◌, ◌≢◌, ℕ, List, ◌++◌, sym, ◌∙◌, ◌+◌, ◌*◌, ◌/◌, ◌%◌, ◌<◌, ◌≤◌, arith}
+use Rattle.std.proofs.Common.{inl, inr, ◌∷◌, length, take, drop, get_or, ap, subst, codes, append_assoc, length-append, Bool, ◌≡◌, ◌≢◌, ℕ, List, ◌++◌, sym, ◌∙◌, ◌/◌, ◌%◌, ◌<◌, ◌≤◌, arith}
 use Rattle.std.proofs.lemmas.List.{take-append-drop}
 use Rattle.std.proofs.Math.Seq.{drop-cons, take-append_seam, get_or-append_seam}
 use Rattle.std.specs.List.{AllPass, prefix_len}
 use Rattle.std.specs.Char.{is_ascii_digit}
 use Rattle.std.proofs.lemmas.Bool.{cases_lt}
 use Rattle.std.proofs.lemmas.Grind.{common_steps}
-use Rattle.std.proofs.lemmas.List.Sums.{prefix_len-drop_no, prefix_len-drop_all, prefix_len_stops, prefix_len-le-length}
+use Rattle.std.proofs.lemmas.List.Sums.{prefix_len-drop_no, prefix_len-drop_all, prefix_len_stops}
 use Rattle.pm_base.specs.Names.{IsJobId, is_id_char}
 use Rattle.pm_base.specs.Calendar.{Date, IsDate}
 use Rattle.pm_base.specs.FileName.{two_digits}
@@ -93,8 +93,8 @@ looks_like bytes long digits dot = record {
   eight = grind (arith, common_steps);
   all_digits = digits;
   text =
-    let at : drop 8 bytes ≡ get_or bytes 8 0 ∷ drop 9 bytes = drop-cons bytes 8 0 (omega arith) in
-    sym (take-append-drop 8 bytes) ∙ (ap (λ (x : List ℕ). take 8 bytes ++ x) (at ∙ ap (λ (y : ℕ). y ∷ drop 9 bytes) dot) ∙ sym (append_assoc (take 8 bytes) (codes ".") (drop 9 bytes)));
+      let at : drop 8 bytes ≡ get_or bytes 8 0 ∷ drop 9 bytes = drop-cons bytes 8 0 (omega arith) in
+      sym (take-append-drop 8 bytes) ∙ (ap (λ (x : List ℕ). take 8 bytes ++ x) (at ∙ ap (λ (y : ℕ). y ∷ drop 9 bytes) dot) ∙ sym (append_assoc (take 8 bytes) (codes ".") (drop 9 bytes)));
 }
 
 front_looks : (bytes digits rest : List ℕ) → length digits ≡ 8 → AllPass is_ascii_digit digits → bytes ≡ digits ++ 46 ∷ rest → (9 ≤ length bytes) × AllPass is_ascii_digit (take 8 bytes) × (get_or bytes 8 0 ≡ 46)

@@ -1,11 +1,9 @@
 -- Each part of a text is read in one way.
-use Rattle.std.proofs.Common.{◌≡◌, ℕ, zero, suc, ◌+◌, ◌*◌, ◌/◌, ◌%◌, ◌<◌, ◌≤◌, List, [], ◌∷◌, ◌++◌, Option, None, Some, codes, refl, sym, ap, ◌∙◌, subst, arith, append_assoc}
-use Rattle.std.specs.List.{prefix_len}
-use Rattle.pm_base.specs.Calendar.{Date, IsDate, IsDateOf, day_number}
-use Rattle.pm_base.specs.Names.{is_id_char}
-use Rattle.pm_base.specs.FileName.{FileType, A, C, FileNameParts, IsFileSpan, IsEndDate, IsFileName, date_text, time_text, type_text, minute_of_day, file_name_text}
+use Rattle.std.proofs.Common.{◌≡◌, ℕ, List, ◌∷◌, Option, None, Some, refl, sym, ap, ◌∙◌, subst, arith}
+use Rattle.pm_base.specs.Calendar.{day_number}
+use Rattle.pm_base.specs.FileName.{FileType, A, C}
 use Rattle.pm_base.proofs.FileNameLemmas.{type_text-front, date_text-front, time_text-front, job_id-front, tails}
-use Rattle.pm_name.specs.Reading.{ReadsType, ReadsDate, ReadsTime, ReadsStart, LooksLikeDate, ReadsEndDate, IsEnd, ReadsEnd, ReadsJob, ReadsUnique, ToStartDate, ToStart, ToEndDate, ToEnd, ToJob}
+use Rattle.pm_name.specs.Reading.{ReadsType, ReadsDate, ReadsStart, ReadsEndDate, IsEnd, ReadsEnd, ReadsJob, ToStartDate, ToStart, ToEndDate, ToEnd, ToJob}
 
 ReadsDate-one : (b : List ℕ) (d e : ℕ) (r s : List ℕ) → ReadsDate b d r → ReadsDate b e s → (d ≡ e) × (r ≡ s)
 ReadsDate-one b d e r s h k =

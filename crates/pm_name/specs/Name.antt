@@ -17,5 +17,5 @@ pub record IsTimesText (kind : FileType) (begin end : ℕ) (text : List ℕ) : T
   pub end_date : List ℕ
   pub end_date_is : IsEndDate kind end end_date
   pub text_is : text
-    ≡ type_text kind ++ date_text first ++ codes "." ++ time_text (minute_of_day begin) ++ codes "-" ++ end_date
+      ≡ type_text kind ++ date_text first ++ codes "." ++ time_text (minute_of_day begin) ++ codes "-" ++ end_date
       ++ time_text (minute_of_day end)

@@ -40,9 +40,7 @@ impl FileKind {
     {
         match self {
             FileKind::A => matches!(minutes, 1 | 5 | 15 | 30 | 60),
-            FileKind::C => {
-                2 <= minutes && minutes <= DAY_MINUTES && DAY_MINUTES % minutes == 0
-            }
+            FileKind::C => { 2 <= minutes && minutes <= DAY_MINUTES && DAY_MINUTES % minutes == 0 }
         }
     }
 

@@ -118,7 +118,12 @@ fn next_at(begin: u64, minute: u64) -> u64
 }
 
 /// Endtime, with the length rule.
-pub(crate) fn split_end(kind: FileKind, begin: u64, day: Option<u32>, bytes: &[u8]) -> Option<(u64, &[u8])>
+pub(crate) fn split_end(
+    kind: FileKind,
+    begin: u64,
+    day: Option<u32>,
+    bytes: &[u8],
+) -> Option<(u64, &[u8])>
     requires whole { begin % 60 ≡ 0 }
     requires small { begin ≤ 253402300799 }
     requires small_day { ForSome day (λ day. day ≤ 2932896) }
@@ -155,7 +160,11 @@ pub(crate) fn split_job(bytes: &[u8]) -> Option<(&[u8], &[u8])>
 {
     let behind = split_mark(bytes, b"_-")?;
     let (job, rest) = behind.split_at(id_length(behind));
-    if is_job_id(job) { Some((job, rest)) } else { None }
+    if is_job_id(job) {
+        Some((job, rest))
+    } else {
+        None
+    }
 }
 
 /// `_` and an id of a distinguished name, to the end.

@@ -6,7 +6,9 @@ ghost use Rattle.pm_name.specs.Name.{name_parts};
 ghost use Rattle.pm_name.specs.Reading.{ToStart, ToEnd, Refuses};
 
 use crate::kind::DAY_SECONDS;
-use crate::parts::{split_date, split_end, split_end_date, split_job, split_start, split_type, unique_id};
+use crate::parts::{
+    split_date, split_end, split_end_date, split_job, split_start, split_type, unique_id,
+};
 use crate::{FileKind, NameError};
 
 /// Type and start, and the bytes behind them.

@@ -51,7 +51,12 @@ fn push_end_date(text: &mut Vec<u8>, kind: FileKind, end: u64) -> Result<(), All
 }
 
 /// The text of a name up to Endtime.
-pub(crate) fn write_times(alloc: Global, kind: FileKind, begin: u64, end: u64) -> Result<Vec<u8>, AllocError>
+pub(crate) fn write_times(
+    alloc: Global,
+    kind: FileKind,
+    begin: u64,
+    end: u64,
+) -> Result<Vec<u8>, AllocError>
     requires begin_in { begin ≤ 253402300799 }
     requires end_in { end ≤ 253402300799 }
     ensures { IfOk result (λ text. IsTimesText (type_of kind) begin end text.items) }

@@ -1,6 +1,5 @@
-use Rattle.std.proofs.Common.{arith, ◌≡◌, Bool, true, false, ℕ, get_or, eqb}
+use Rattle.std.proofs.Common.{arith, get_or}
 use Rattle.std.proofs.lemmas.Bool.Decides.{Decides-eqb}
-use Rattle.pm_name.specs.Reading.{LooksLikeDate}
 use Rattle.pm_name.proofs.PartLemmas.{looks_like, like_looks}
 use Rattle.pm_name.proofs.parts.looks_like_date.Goals as goal
 

@@ -1,4 +1,4 @@
-use Rattle.std.proofs.Common.{sym, subst, ◌≡◌, Bool, true, false}
+use Rattle.std.proofs.Common.{sym, subst}
 use Rattle.pm_base.specs.Names.{IsJobId}
 use Rattle.pm_name.proofs.PartLemmas.{job_read, no_job}
 use Rattle.pm_name.proofs.parts.split_job.Goals as goal

@@ -1,4 +1,3 @@
-use Rattle.std.proofs.Common.{◌∙◌, ap}
 use Rattle.std.proofs.lemmas.Result.{err_from_is_err_and}
 use Rattle.pm_base.proofs.FileNameLemmas.{IsFileName-one_name}
 use Rattle.pm_name.proofs.RefusalLemmas.{refused-exact, memory-exact, Refuses-no_name}
