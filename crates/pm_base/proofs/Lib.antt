@@ -3,3 +3,5 @@ pub mod FeedLemmas
 pub mod NumberLemmas
 pub mod PiecesLemmas
 pub mod LinesLemmas
+pub mod CalendarLemmas
+pub mod FileNameLemmas

@@ -10,3 +10,5 @@ pub mod Class
 pub mod Code
 pub mod Names
 pub mod Memory
+pub mod Calendar
+pub mod FileName

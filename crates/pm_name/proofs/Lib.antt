@@ -1,0 +1,5 @@
+pub mod DayLemmas
+pub mod PartLemmas
+pub mod ReadingLemmas
+pub mod NameLemmas
+pub mod RefusalLemmas

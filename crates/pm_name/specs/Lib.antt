@@ -1,0 +1,4 @@
+pub mod Kind
+pub mod CalendarDate
+pub mod Name
+pub mod Reading
