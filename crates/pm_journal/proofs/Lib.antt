@@ -1,0 +1,7 @@
+pub mod ImageLemmas
+pub mod ItemsLemmas
+pub mod ListLemmas
+mod StagingLemmas
+mod AppendingLemmas
+mod OpeningLemmas
+mod ReadingLemmas

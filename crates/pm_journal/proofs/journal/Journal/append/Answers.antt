@@ -1,0 +1,13 @@
+use Rattle.std.proofs.Common.{◌++◌, [], ◌∷◌, refl, arith}
+use Rattle.pm_journal.proofs.AppendingLemmas.{either_at_rest, at_grown, length_at_end}
+use Rattle.pm_journal.proofs.journal.Journal.append.Goals as goal
+
+pub returns-then-need-self-clause-any_moment : goal.returns-then-need-self-clause-any_moment
+returns-then-need-self-clause-any_moment g c = λ told items at.
+    either_at_rest c.args.self.now.area _ c.args.self.now items (items ++ c.args.bytes.now ∷ []) at c.requires.ready (omega (arith, c.args.self.now.in_limit, c.args.self.now.small))
+
+pub returns-in-Ok-clause-added : goal.returns-in-Ok-clause-added
+returns-in-Ok-clause-added g c = λ told items at.
+    let end = at.ready c.requires.ready in
+    let stored = c.in-Ok.ensures.stored told items end (omega (arith, at.length, length_at_end _ items end)) in
+    at_grown c.args.self.now _ _ _ items c.args.bytes.now at c.requires.ready (omega (arith, c.if-need-self.false, c.args.self.now.small)) stored refl (omega arith)
