@@ -5,3 +5,4 @@ mod StagingLemmas
 mod AppendingLemmas
 mod OpeningLemmas
 mod ReadingLemmas
+pub mod TiedLemmas

@@ -10,7 +10,7 @@ use Rattle.pm_journal.specs.declared.journal.Journal.{Journal}
 use Rattle.pm_journal.specs.declared.phase.Phase.TheVariants.{Ready}
 use Rattle.pm_journal.specs.Items.{mark, size_bytes, blocks, front, IsItem, IsCutShort, EachFits, HasList, HasItems, EndsAt}
 use Rattle.pm_journal.specs.Lists.{KeepsLists}
-use Rattle.pm_journal.specs.Journal.{IsAt, IsAtEnd}
+use Rattle.pm_journal.specs.Journal.{IsAt, IsAtEnd, IsTied}
 use Rattle.pm_journal.specs.Appending.{IsCutting}
 use Rattle.pm_journal.specs.Reading.{IsOpenItem, IsClosedGate, IsGarbled, HandsOut, EndsList}
 use Rattle.pm_journal.proofs.ItemsLemmas.{item_size, item_length, item_unique, size_bytes-unique, block_item, stop_has_no_item, drop_front, length-front_push, EachFits-left, EachFits-right}
@@ -111,6 +111,12 @@ handed_out item v old new area given left at found bytes_is offset_is gate_is le
 pub handed_out_at : (item : Item) (v : List ℕ) (old new : Journal) (area area' : AreaState) (given left : List (List ℕ)) → IsAt old area given left → IsOpenItem (drop old.at area.seen) v → item.bytes ≡ v → item.offset ≡ old.at → new.at ≡ old.at + 5 + length v → new.length ≡ old.length → (new.phase ≡ Ready → ⊥) → area' ≡ area → HandsOut item old new area' given left × (area' ≡ area)
 handed_out_at item v old new area area' given left at found bytes_is offset_is gate_is length_is reading same =
     (subst (λ (a : AreaState). HandsOut item old new a given left) (sym same) (handed_out item v old new area given left at found bytes_is offset_is gate_is length_is reading), same)
+
+pub tied_behind_item : (v : List ℕ) (old new : Journal) (area area' : AreaState) (given left : List (List ℕ)) → IsAt old area given left → IsOpenItem (drop old.at area.seen) v → new.at ≡ old.at + 5 + length v → new.length ≡ old.length → (new.phase ≡ Ready → ⊥) → area' ≡ area → IsTied new area'
+tied_behind_item v old new area area' given left at found gate_is length_is reading same =
+    let item : Item = record { offset = old.at; bytes = v } in
+    let hands = handed_out item v old new area given left at found refl refl gate_is length_is reading in
+    subst (λ (a : AreaState). IsTied new a) (sym same) (given ++ v ∷ [], hands.rest, hands.at)
 
 -- What the area is where it is cut behind the closed gate.
 ended_there : (old : Journal) (area : AreaState) (given left : List (List ℕ)) (at : IsAt old area given left) → (closed : IsClosedGate (drop old.at area.seen)) → EndsAt area.seen given

@@ -9,7 +9,7 @@
 //!
 //! An area of at most 9 bytes is fresh. `append` writes the length, the item and a closed gate behind the closed gate, syncs,
 //! opens the gate, and syncs again. `next` cuts what stands behind the closed gate, so that nothing counts once it is opened.
-ghost use Rattle.std.specs.Prelude.{◌≡◌, ◌<◌, ◌≤◌, ◌+◌, ◌^◌, ◌++◌, [], ◌∷◌, List, ℕ, length, drop, OnOk, IfOk, IfErr, IsErrOf};
+ghost use Rattle.std.specs.Prelude.{◌≡◌, ◌<◌, ◌≤◌, ◌+◌, ◌^◌, ◌++◌, [], ◌∷◌, List, ℕ, length, drop, IsNone, OnOk, IfOk, IfErr, IsErrOf};
 ghost use Rattle.pm_base.specs.Causes.{Rose};
 ghost use Rattle.pm_disk.specs.Moments.{of, Throughout};
 ghost use Rattle.pm_journal.specs.Lists.{KeepsLists, HasEither};
@@ -54,6 +54,7 @@ impl Journal {
         requires { limit ≤ 2 ^ 32 }
 
         ensures opened { D.IsTold → IfOk result (λ journal. IsOpened limit (of (D.told disk.old).now area).seen journal (of (D.told disk.new).now area)) }
+        ensures tied { D.IsTold → IfOk result (λ journal. IsTied journal (of (D.told disk.new).now area)) }
         ensures usable { IfOk result (λ journal. IsUsable journal) }
         ensures place { IfOk result (λ journal. (area_of journal ≡ area) × (limit_of journal ≡ limit)) }
         ensures any_moment { D.IsTold → Throughout (KeepsLists area (D.told disk.old).now) (D.told disk.old) (D.told disk.new) }
@@ -80,7 +81,9 @@ impl Journal {
 
         ensures next { D.IsTold → (given left : List (List ℕ)) → IsAt self.old (of (D.told disk.old).now (area_of self.old)) given left
             → IfOk result (λ next. IsNext next self.old self.new (of (D.told disk.old).now (area_of self.old)) (of (D.told disk.new).now (area_of self.old)) given left) }
+        ensures tied { D.IsTold → OnOk result (IsTied self.new (of (D.told disk.new).now (area_of self.old))) }
         ensures usable { OnOk result (IsUsable self.new) }
+        ensures ready { IfOk result (λ next. IsNone next → IsReady self.new) }
         ensures place { (area_of self.new ≡ area_of self.old) × (limit_of self.new ≡ limit_of self.old) }
         ensures any_moment { D.IsTold → Throughout (KeepsLists (area_of self.old) (D.told disk.old).now) (D.told disk.old) (D.told disk.new) }
 
@@ -113,7 +116,9 @@ impl Journal {
 
         ensures next { D.IsTold → (given left : List (List ℕ)) → IsAt self.old (of (D.told disk.old).now (area_of self.old)) given left
             → IfOk result (λ next. IsNext next self.old self.new (of (D.told disk.old).now (area_of self.old)) (of (D.told disk.new).now (area_of self.old)) given left) }
+        ensures tied { D.IsTold → OnOk result (IsTied self.new (of (D.told disk.new).now (area_of self.old))) }
         ensures usable { OnOk result (IsUsable self.new) }
+        ensures ready { IfOk result (λ next. IsReady self.new) }
         ensures place { (area_of self.new ≡ area_of self.old) × (limit_of self.new ≡ limit_of self.old) }
         ensures any_moment { D.IsTold → Throughout (KeepsLists (area_of self.old) (D.told disk.old).now) (D.told disk.old) (D.told disk.new) }
         ensures refused { IfErr result (λ e. (e ≡ JournalError.StoreFault) × IsSpent self.new) }
@@ -140,6 +145,7 @@ impl Journal {
 
         ensures added { D.IsTold → (items : List (List ℕ)) → IsAt self.old (of (D.told disk.old).now (area_of self.old)) items []
             → OnOk result (IsAt self.new (of (D.told disk.new).now (area_of self.old)) (items ++ bytes.now ∷ []) []) }
+        ensures tied { D.IsTold → OnOk result (IsTied self.new (of (D.told disk.new).now (area_of self.old))) }
         ensures ready { OnOk result (IsReady self.new) }
         ensures longer { OnOk result ((length_of self.new ≡ length_of self.old + 5 + length bytes.now) × (length_of self.new ≤ limit_of self.old)) }
         ensures place { (area_of self.new ≡ area_of self.old) × (limit_of self.new ≡ limit_of self.old) }

@@ -12,3 +12,6 @@ mod reading;
 pub use error::JournalError;
 pub use item::Item;
 pub use journal::Journal;
+
+#[cfg(test)]
+mod tests;
