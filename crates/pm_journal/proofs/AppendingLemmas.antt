@@ -1,14 +1,14 @@
 -- The lists of the images while an item is added, and the journal behind it.
-use Rattle.std.proofs.Common.{◌≡◌, ◌≢◌, ◌⊎◌, inl, inr, ℕ, ◌+◌, ◌<◌, ◌≤◌, ◌^◌, List, [], ◌∷◌, ◌++◌, length, take, set, Result, Ok, Err, OnOk, refl, sym, ◌∙◌, ap, subst, arith, append_assoc, length-append}
+use Rattle.std.proofs.Common.{◌≡◌, ◌⊎◌, inl, inr, ℕ, ◌+◌, ◌<◌, ◌≤◌, ◌^◌, List, [], ◌∷◌, ◌++◌, length, take, set, Result, Ok, Err, OnOk, refl, sym, ◌∙◌, ap, subst, arith, append_assoc, length-append}
 use Rattle.std.proofs.lemmas.List.{append-nil, set_at, take_all}
 use Rattle.std.proofs.lemmas.Bool.{cases_eq}
 use Rattle.pm_disk.specs.declared.area.Area.{Area}
-use Rattle.pm_disk.specs.Area.{AreaState, IsImage, clean}
+use Rattle.pm_disk.specs.Area.{AreaState, clean}
 use Rattle.pm_disk.specs.Moments.{DiskState, Told, Throughout, of, other}
 use Rattle.pm_disk.proofs.MomentLemmas.{at_rest}
 use Rattle.pm_journal.specs.declared.journal.Journal.{Journal}
 use Rattle.pm_journal.specs.declared.phase.Phase.TheVariants.{Ready}
-use Rattle.pm_journal.specs.Items.{mark, size_bytes, blocks, front, EachFits, HasList, HasItems, EndsAt, IsWhole}
+use Rattle.pm_journal.specs.Items.{size_bytes, front, EachFits, HasList, HasItems, EndsAt, IsWhole}
 use Rattle.pm_journal.specs.Lists.{HasEither}
 use Rattle.pm_journal.specs.Journal.{IsAt, IsAtEnd}
 use Rattle.pm_journal.specs.Appending.{IsStaging, IsOpening}

@@ -1,7 +1,6 @@
 -- Items, blocks and lists: how the bytes of an area are made of them, and that they have one list.
-use Rattle.std.proofs.Common.{◌≡◌, ◌≢◌, ◌⊎◌, inl, inr, ℕ, suc, zero, ◌+◌, ◌<◌, ◌≤◌, ◌^◌, List, [], ◌∷◌, ◌++◌, length, take, drop, refl, sym, ◌∙◌, ap, subst, arith, append_assoc, length-append, length-drop, length-take, take-append-drop}
+use Rattle.std.proofs.Common.{◌≡◌, ◌≢◌, ◌⊎◌, inl, inr, ℕ, ◌+◌, ◌<◌, ◌≤◌, ◌^◌, List, [], ◌∷◌, ◌++◌, length, take, drop, refl, sym, ◌∙◌, ap, subst, arith, append_assoc, length-append}
 use Rattle.std.proofs.lemmas.List.{append-nil, append_cancel_left, take_at, drop_at}
-use Rattle.std.proofs.lemmas.Bool.{cases_eq}
 use Rattle.std.proofs.lemmas.Nat.{from_be_bytes-to_be_bytes_4}
 use Rattle.std.specs.Int.{w32, from_be_bytes}
 use Rattle.pm_journal.specs.Items.{mark, size_bytes, blocks, front, IsItem, IsCutShort, EachFits, HasList, HasItems, EndsAt}
@@ -37,8 +36,7 @@ item_length bytes item behind is =
 pub item_unique : (bytes x r y s : List ℕ) → IsItem bytes x r → IsItem bytes y s → (x ≡ y) × (r ≡ s)
 item_unique bytes x r y s first second =
     let same_size : length x ≡ length y = size_bytes-unique (length x) (length y) first.fits second.fits (sym (item_size bytes x r first) ∙ item_size bytes y s second) in
-    let rest : x ++ r ≡ y ++ s = sym (item_rest bytes x r first) ∙ item_rest bytes y s second in
-    (
+    let rest : x ++ r ≡ y ++ s = sym (item_rest bytes x r first) ∙ item_rest bytes y s second in (
       sym (take_at x r (length x) refl) ∙ ap (λ (l : List ℕ). take (length x) l) rest ∙ take_at y s (length x) (sym same_size),
       sym (drop_at x r (length x) refl) ∙ ap (λ (l : List ℕ). drop (length x) l) rest ∙ drop_at y s (length x) (sym same_size),
     )

@@ -4,10 +4,9 @@ use Rattle.std.proofs.lemmas.List.{take_at}
 use Rattle.std.proofs.lemmas.Bool.{cases_eq}
 use Rattle.std.specs.Int.{w32, from_be_bytes}
 use Rattle.pm_disk.specs.declared.area.Area.{Area}
-use Rattle.pm_disk.specs.Area.{AreaState, IsImage, clean}
-use Rattle.pm_disk.specs.Moments.{DiskState, Told, Throughout, of, other}
+use Rattle.pm_disk.specs.Moments.{Told, Throughout}
 use Rattle.pm_disk.proofs.MomentLemmas.{at_rest, look_on}
-use Rattle.pm_journal.specs.Items.{mark, size_bytes, blocks, front, IsItem, IsCutShort, EachFits, HasList, HasItems, EndsAt, IsWhole}
+use Rattle.pm_journal.specs.Items.{mark, size_bytes, blocks, front, IsItem, IsCutShort, EachFits, HasList, HasItems, EndsAt}
 use Rattle.pm_journal.specs.Lists.{KeepsList, KeepsLists}
 use Rattle.pm_journal.proofs.ItemsLemmas.{item_size, item_length, size_of_size_bytes, list_of_end, HasItems-unique, short_list}
 
@@ -25,6 +24,7 @@ same_or_not (x ∷ xs) (y ∷ ys) = elim (cases_eq x y) [
   where
     tails : x ∷ xs ≡ y ∷ ys → xs ≡ ys
     tails same = cc
+
     heads : x ∷ xs ≡ y ∷ ys → x ≡ y
     heads same = cc
 
@@ -37,11 +37,11 @@ found_item bytes n same fits inside =
     let long : length (take n (drop 4 bytes)) ≡ n = omega (arith, length-take n (drop 4 bytes), length-drop 4 bytes) in
     record {
       is = sym (
-        append_assoc (size_bytes (length (take n (drop 4 bytes)))) (take n (drop 4 bytes)) (drop n (drop 4 bytes))
-        ∙ ap (λ (l : List ℕ). size_bytes (length (take n (drop 4 bytes))) ++ l) (take-append-drop n (drop 4 bytes))
-        ∙ ap (λ (m : ℕ). size_bytes m ++ drop 4 bytes) long
-        ∙ ap (λ (l : List ℕ). l ++ drop 4 bytes) same
-        ∙ take-append-drop 4 bytes);
+          append_assoc (size_bytes (length (take n (drop 4 bytes)))) (take n (drop 4 bytes)) (drop n (drop 4 bytes))
+          ∙ ap (λ (l : List ℕ). size_bytes (length (take n (drop 4 bytes))) ++ l) (take-append-drop n (drop 4 bytes))
+          ∙ ap (λ (m : ℕ). size_bytes m ++ drop 4 bytes) long
+          ∙ ap (λ (l : List ℕ). l ++ drop 4 bytes) same
+          ∙ take-append-drop 4 bytes);
       fits = omega (arith, long, fits);
       gate = omega (arith, length-drop n (drop 4 bytes), length-drop 4 bytes);
     }
@@ -78,9 +78,9 @@ push_block rest item behind items is more = record {
   gate = more.gate;
   rest = more.rest;
   is = ap (λ (l : List ℕ). 1 ∷ l) (
-    is.is
-    ∙ ap (λ (l : List ℕ). size_bytes (length item) ++ item ++ l) more.is
-    ∙ sym (append_assoc (size_bytes (length item) ++ item) (blocks items) (more.gate ∷ more.rest)));
+      is.is
+      ∙ ap (λ (l : List ℕ). size_bytes (length item) ++ item ++ l) more.is
+      ∙ sym (append_assoc (size_bytes (length item) ++ item) (blocks items) (more.gate ∷ more.rest)));
   stops = more.stops;
 }
 
@@ -101,14 +101,16 @@ has_blocks (suc most) (gate ∷ rest) few some = elim (cases_eq gate 1) [
 -- Bytes with the mark and a gate have a list.
 pub HasList-exists : (bytes : List ℕ) → 8 < length bytes → take 8 bytes ≡ mark → (items : List (List ℕ)) × HasList bytes items
 HasList-exists bytes long marked =
-    let more = has_blocks (length (drop 8 bytes)) (drop 8 bytes) (omega arith) (omega (arith, length-drop 8 bytes)) in
-    (more.0, record {
-      fits = more.1.fits;
-      gate = more.1.gate;
-      rest = more.1.rest;
-      is = sym (take-append-drop 8 bytes) ∙ ap (λ (l : List ℕ). l ++ drop 8 bytes) marked ∙ ap (λ (l : List ℕ). mark ++ l) more.1.is;
-      stops = more.1.stops;
-    })
+    let more = has_blocks (length (drop 8 bytes)) (drop 8 bytes) (omega arith) (omega (arith, length-drop 8 bytes)) in (
+      more.0,
+      record {
+        fits = more.1.fits;
+        gate = more.1.gate;
+        rest = more.1.rest;
+        is = sym (take-append-drop 8 bytes) ∙ ap (λ (l : List ℕ). l ++ drop 8 bytes) marked ∙ ap (λ (l : List ℕ). mark ++ l) more.1.is;
+        stops = more.1.stops;
+      },
+    )
 
 pub keeps_itself : (bytes : List ℕ) → KeepsList bytes bytes
 keeps_itself bytes = record { items = λ items has. has; whole = λ whole. whole }

@@ -1,15 +1,14 @@
 -- The device calls by which an area is opened, and the journal behind them.
-use Rattle.std.proofs.Common.{◌≡◌, ◌⊎◌, inl, inr, ℕ, ◌+◌, ◌<◌, ◌≤◌, max, List, [], ◌∷◌, ◌++◌, length, take, Result, Ok, Err, OnOk, refl, sym, ◌∙◌, ap, subst, arith}
+use Rattle.std.proofs.Common.{◌≡◌, inl, inr, ℕ, ◌≤◌, List, [], length, Result, Ok, Err, refl, sym, ◌∙◌, ap, subst, arith}
 use Rattle.pm_disk.specs.declared.area.Area.{Area}
 use Rattle.pm_disk.specs.Area.{AreaState, IsImage, IsWrite, IsCut, IsSync, clean}
 use Rattle.pm_disk.specs.Moments.{DiskState, Told, IsStep, Throughout, of, other}
 use Rattle.pm_disk.proofs.MomentLemmas.{at_rest, step_on, at_end}
 use Rattle.pm_journal.specs.declared.journal.Journal.{Journal}
 use Rattle.pm_journal.specs.declared.phase.Phase.TheVariants.{Reading, Ready}
-use Rattle.pm_journal.specs.Items.{mark, front, HasList, HasItems}
+use Rattle.pm_journal.specs.Items.{HasList}
 use Rattle.pm_journal.specs.Lists.{KeepsLists}
-use Rattle.pm_journal.specs.Journal.{IsAt}
-use Rattle.pm_journal.specs.Opening.{IsFresh, IsMarked, IsBegun, IsShort, IsRefreshing, IsOpened}
+use Rattle.pm_journal.specs.Opening.{IsBegun, IsShort, IsRefreshing, IsOpened}
 use Rattle.pm_journal.proofs.ImageLemmas.{sync_image}
 use Rattle.pm_journal.proofs.ListLemmas.{keeps_itself, keeps_few, keeps_at_rest, HasList-exists}
 

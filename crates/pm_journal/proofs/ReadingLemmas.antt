@@ -1,20 +1,20 @@
 -- What is read from a gate on, and the journal behind it.
-use Rattle.std.proofs.Common.{◌≡◌, ◌≢◌, ◌⊎◌, inl, inr, ℕ, ◌+◌, ◌<◌, ◌≤◌, ◌^◌, List, [], ◌∷◌, ◌++◌, length, get_or, take, drop, Result, Ok, Err, IfErr, refl, sym, ◌∙◌, ap, subst, arith, append_assoc, length-append, length-drop, length-take}
+use Rattle.std.proofs.Common.{◌≡◌, ◌≢◌, ◌⊎◌, inl, ℕ, ◌+◌, ◌<◌, ◌^◌, List, [], ◌∷◌, ◌++◌, length, get_or, take, drop, refl, sym, ◌∙◌, ap, subst, arith, append_assoc, length-append, length-drop}
 use Rattle.std.proofs.lemmas.List.{append-nil, drop_more, get_or-take, get_or-drop, drop-drop, take_at}
 use Rattle.pm_disk.specs.declared.area.Area.{Area}
 use Rattle.pm_disk.specs.Area.{AreaState, IsImage, clean}
-use Rattle.pm_disk.specs.Moments.{DiskState, Told, Throughout, of, other}
+use Rattle.pm_disk.specs.Moments.{Told, Throughout, of}
 use Rattle.pm_disk.proofs.MomentLemmas.{weaken}
 use Rattle.pm_journal.specs.declared.item.Item.{Item}
 use Rattle.pm_journal.specs.declared.journal.Journal.{Journal}
 use Rattle.pm_journal.specs.declared.phase.Phase.TheVariants.{Ready}
-use Rattle.pm_journal.specs.Items.{mark, size_bytes, blocks, front, IsItem, IsCutShort, EachFits, HasList, HasItems, EndsAt}
+use Rattle.pm_journal.specs.Items.{size_bytes, blocks, front, IsItem, IsCutShort, EachFits, HasList, EndsAt}
 use Rattle.pm_journal.specs.Lists.{KeepsLists}
-use Rattle.pm_journal.specs.Journal.{IsAt, IsAtEnd, IsTied}
+use Rattle.pm_journal.specs.Journal.{IsAt, IsTied}
 use Rattle.pm_journal.specs.Appending.{IsCutting}
 use Rattle.pm_journal.specs.Reading.{IsOpenItem, IsClosedGate, IsGarbled, HandsOut, EndsList}
 use Rattle.pm_journal.proofs.ItemsLemmas.{item_size, item_length, item_unique, size_bytes-unique, block_item, stop_has_no_item, drop_front, length-front_push, EachFits-left, EachFits-right}
-use Rattle.pm_journal.proofs.ListLemmas.{found_item, keeps_up_to_gate, ends_behind_gate}
+use Rattle.pm_journal.proofs.ListLemmas.{found_item, keeps_up_to_gate}
 
 pub cut_short_of_few : (bytes : List ℕ) → length bytes < 5 → IsCutShort bytes
 cut_short_of_few bytes few = λ item behind is. omega (arith, few, item_length bytes item behind is, is.gate)

@@ -1,6 +1,6 @@
 -- The device calls by which an item is put behind the closed gate, the gate is opened, and the area is cut.
-use Rattle.std.proofs.Common.{◌≡◌, ℕ, ◌+◌, ◌<◌, ◌≤◌, List, [], ◌∷◌, ◌++◌, length, get_or, take, drop, set, Result, Ok, Err, OnOk, refl, sym, ◌∙◌, ap, subst, arith, add-one, append_assoc, length-take}
-use Rattle.std.proofs.lemmas.List.{set-get_or, set_split, take_all, take-take}
+use Rattle.std.proofs.Common.{◌≡◌, ℕ, ◌+◌, ◌<◌, ◌≤◌, List, [], ◌∷◌, ◌++◌, length, get_or, take, drop, set, Result, Ok, Err, OnOk, refl, sym, ◌∙◌, ap, arith, add-one, append_assoc, length-take}
+use Rattle.std.proofs.lemmas.List.{set-get_or, set_split, take_all}
 use Rattle.pm_disk.specs.declared.area.Area.{Area}
 use Rattle.pm_disk.specs.Area.{AreaState, IsImage, IsWrite, IsCut, IsSync, overwritten, clean}
 use Rattle.pm_disk.specs.Moments.{DiskState, Told, IsStep, Throughout, of, other}

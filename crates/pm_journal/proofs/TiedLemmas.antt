@@ -1,12 +1,12 @@
 -- The area is as the journal knows it, behind each call that is Ok.
-use Rattle.std.proofs.Common.{◌≡◌, inl, ℕ, List, [], ◌∷◌, ◌++◌, Option, Some, None, sym, subst}
+use Rattle.std.proofs.Common.{◌≡◌, inl, ℕ, List, [], ◌∷◌, ◌++◌, Option, Some, None, sym, ◌∙◌, subst}
 use Rattle.std.proofs.lemmas.List.{append-nil}
 use Rattle.pm_disk.specs.Area.{AreaState}
 use Rattle.pm_journal.specs.declared.item.Item.{Item}
 use Rattle.pm_journal.specs.declared.journal.Journal.{Journal}
-use Rattle.pm_journal.specs.declared.phase.Phase.TheVariants.{Ready}
+use Rattle.pm_journal.specs.declared.phase.Phase.TheVariants.{Ready, Spent}
 use Rattle.pm_journal.specs.Items.{HasList}
-use Rattle.pm_journal.specs.Journal.{IsAt, IsTied}
+use Rattle.pm_journal.specs.Journal.{IsAt, IsTied, IsReady, IsUsable}
 use Rattle.pm_journal.specs.Opening.{IsOpened}
 use Rattle.pm_journal.specs.Reading.{IsNext}
 use Rattle.pm_journal.proofs.ItemsLemmas.{EachFits-left}
@@ -29,3 +29,10 @@ at_ready journal area given left at ready =
       length = at.length;
       ready = at.ready;
     }
+
+ready_is_not_spent : Ready ≡ Spent → ⊥
+ready_is_not_spent same = cc
+
+-- A journal that is ready isn't spent.
+pub usable_if_ready : (journal : Journal) → IsReady journal → IsUsable journal
+usable_if_ready journal ready = λ spent. ready_is_not_spent (sym ready ∙ spent)

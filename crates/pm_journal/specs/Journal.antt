@@ -3,7 +3,7 @@ use Rattle.std.specs.Prelude.{◌≡◌, ◌≢◌, ℕ, List, [], ◌∷◌, �
 use Rattle.pm_disk.specs.declared.area.Area.{Area}
 use Rattle.pm_disk.specs.Area.{AreaState, clean}
 use Rattle.pm_journal.specs.declared.journal.Journal.{Journal}
-use Rattle.pm_journal.specs.declared.phase.Phase.TheVariants.{Reading, Ready, Spent}
+use Rattle.pm_journal.specs.declared.phase.Phase.TheVariants.{Ready, Spent}
 use Rattle.pm_journal.specs.Items.{front, HasList}
 
 -- The area that it is kept in.

@@ -1,7 +1,7 @@
 -- Which lists the images of an area have, at a moment in a call.
 use Rattle.std.specs.Prelude.{◌≡◌, ◌⊎◌, ℕ, List}
 use Rattle.pm_disk.specs.declared.area.Area.{Area}
-use Rattle.pm_disk.specs.Area.{AreaState, IsImage}
+use Rattle.pm_disk.specs.Area.{IsImage}
 use Rattle.pm_disk.specs.Moments.{DiskState, of, other}
 use Rattle.pm_journal.specs.Items.{HasItems, IsWhole}
 

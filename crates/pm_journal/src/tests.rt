@@ -70,10 +70,19 @@ fn a_journal_of_sixteen_bytes_takes_one_item_of_two(rt: HostRuntime) -> Result<(
     assert_eq!(rt; disk.bytes(Area::First), b"PMDLOG1\n\0".as_slice());
     assert_eq!(rt; read_all(rt.alloc(), &mut disk, &mut journal)?.len(), 0);
     journal.append(&mut disk, b"AB")?;
-    assert_eq!(rt; disk.bytes(Area::First), b"PMDLOG1\n\x01\0\0\0\x02AB\0".as_slice());
+    assert_eq!(rt;
+        disk.bytes(Area::First),
+        b"PMDLOG1\n\x01\0\0\0\x02AB\0".as_slice()
+    );
     assert_eq!(rt; journal.length(), 16);
     let full = journal.append(&mut disk, b"C");
-    assert_eq!(rt; full.err(), Some(JournalError::StoreFull { length: 16, need: 22 }));
+    assert_eq!(rt;
+        full.err(),
+        Some(JournalError::StoreFull {
+            length: 16,
+            need: 22
+        })
+    );
     put(&rt, &mut disk, 12, b"\x03")?;
     let mut journal = Journal::open(rt.alloc(), &mut disk, Area::First, 16)?;
     let garbled = read_all(rt.alloc(), &mut disk, &mut journal);
@@ -109,8 +118,22 @@ fn check_reading(
 fn what_stands_behind_a_closed_gate_is_cut_off(rt: HostRuntime) -> Result<(), Fail> {
     let one = b"PMDLOG1\n\x01\0\0\0\x01a\0";
     let two = b"PMDLOG1\n\x01\0\0\0\x01a\x01\0\0\0\0\xff";
-    check_reading(&rt, rt.alloc(), b"PMDLOG1\n\x02\0\0\0\x01a\0", &[], b"", b"PMDLOG1\n\x02")?;
-    check_reading(&rt, rt.alloc(), b"PMDLOG1\n\x01\0\0\0\x01a\0xyz", &[8], b"a", one)?;
+    check_reading(
+        &rt,
+        rt.alloc(),
+        b"PMDLOG1\n\x02\0\0\0\x01a\0",
+        &[],
+        b"",
+        b"PMDLOG1\n\x02",
+    )?;
+    check_reading(
+        &rt,
+        rt.alloc(),
+        b"PMDLOG1\n\x01\0\0\0\x01a\0xyz",
+        &[8],
+        b"a",
+        one,
+    )?;
     check_reading(&rt, rt.alloc(), two, &[8, 14], b"a", two)?;
     check_reading(&rt, rt.alloc(), b"PMDLOG1", &[], b"", b"PMDLOG1\n\0")
 }

@@ -19,12 +19,14 @@ returns-in-Some-clause-found g c = λ told.
     }
 
 pub returns-in-None-clause-refused : goal.returns-in-None-clause-refused
-returns-in-None-clause-refused g c =
-    (refl, λ told.
-        let seen = (of (g.D.Disk.told c.args.disk.now).now c.args.area).seen in
-        let found = subst (λ (t : Told). IsItemOrCutShort (drop (c.args.at + 1) (of t.now c.args.area).seen) c.in_ok-bytes.field-0) (c.read.ensures.told told) (c.in_ok-bytes.ensures.item told) in
-        record {
-          behind_gate = drop (c.args.at + 1) seen;
-          is = is_open_gate seen _ c.args.at (omega (arith, c.requires.told told, c.requires.inside)) (c.in_ok-read.ensures.bytes told) c.if-gate-ne-OPEN.false;
-          cut_short = subst (λ (o : Option (Vec ℕ Global)). IsItemOrCutShort (drop (c.args.at + 1) seen) o) c.in-None.is found;
-        })
+returns-in-None-clause-refused g c = (
+  refl,
+  λ told.
+      let seen = (of (g.D.Disk.told c.args.disk.now).now c.args.area).seen in
+      let found = subst (λ (t : Told). IsItemOrCutShort (drop (c.args.at + 1) (of t.now c.args.area).seen) c.in_ok-bytes.field-0) (c.read.ensures.told told) (c.in_ok-bytes.ensures.item told) in
+      record {
+        behind_gate = drop (c.args.at + 1) seen;
+        is = is_open_gate seen _ c.args.at (omega (arith, c.requires.told told, c.requires.inside)) (c.in_ok-read.ensures.bytes told) c.if-gate-ne-OPEN.false;
+        cut_short = subst (λ (o : Option (Vec ℕ Global)). IsItemOrCutShort (drop (c.args.at + 1) seen) o) c.in-None.is found;
+      },
+)
