@@ -1,0 +1,3 @@
+pub mod MomentLemmas
+mod CallsLemmas
+mod MadeLemmas

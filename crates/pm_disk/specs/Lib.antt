@@ -1,0 +1,9 @@
+pub mod Area
+pub mod Moments
+pub mod Made
+pub mod Calls
+pub mod Record
+pub mod Contents
+pub mod Sound
+pub mod Memory
+pub mod Files

@@ -1,0 +1,98 @@
+use super::*;
+use pm_base::Failed;
+use std::fs;
+use std::process::Abort;
+use std::test::Fail;
+
+fn write(rt: &impl Abort, disk: &mut MemDisk, at: u64, bytes: &[u8]) -> Result<(), Failed> {
+    assert!(rt; at as usize <= disk.bytes(Area::First).len());
+    disk.write_at(Area::First, at, bytes)
+}
+
+fn cut(rt: &impl Abort, disk: &mut MemDisk, to: u64) -> Result<(), Failed> {
+    assert!(rt; to as usize <= disk.bytes(Area::First).len());
+    disk.cut(Area::First, to)
+}
+
+fn read(rt: &impl Abort, disk: &mut MemDisk, at: u64, buf: &mut [u8]) -> Result<(), Failed> {
+    assert!(rt; buf.len() <= 65536);
+    assert!(rt; at <= 65536);
+    assert!(rt; at as usize + buf.len() <= disk.bytes(Area::First).len());
+    disk.read(Area::First, at, buf)
+}
+
+#[test]
+fn an_area_reads_what_was_written_over_and_past_its_end(rt: HostRuntime) -> Result<(), Fail> {
+    let mut disk = MemDisk::new(rt.alloc(), 100, &[])?;
+    write(&rt, &mut disk, 0, b"abcd")?;
+    write(&rt, &mut disk, 1, b"XY")?;
+    assert_eq!(rt; disk.bytes(Area::First), b"aXYd".as_slice());
+    write(&rt, &mut disk, 3, b"123")?;
+    assert_eq!(rt; disk.bytes(Area::First), b"aXY123".as_slice());
+    write(&rt, &mut disk, 6, b"")?;
+    cut(&rt, &mut disk, 2)?;
+    disk.sync(Area::First)?;
+    assert_eq!(rt; disk.bytes(Area::First), b"aX".as_slice());
+    assert_eq!(rt; disk.len(Area::First)?, 2);
+    let mut buf = [0; 1];
+    read(&rt, &mut disk, 1, &mut buf)?;
+    assert_eq!(rt; buf, *b"X");
+    assert_eq!(rt; disk.bytes(Area::Second), b"".as_slice());
+    assert_eq!(rt; disk.faults(), 0);
+    Ok(())
+}
+
+#[test]
+fn a_call_fails_by_its_number_and_by_the_room(rt: HostRuntime) -> Result<(), Fail> {
+    let mut disk = MemDisk::new(rt.alloc(), 6, &[2, 4])?;
+    write(&rt, &mut disk, 0, b"abc")?;
+    assert_eq!(rt; write(&rt, &mut disk, 0, b"x"), Err(Failed));
+    assert_eq!(rt;
+        write(&rt, &mut disk, 3, b"def"),
+        Err(Failed),
+        "the failed write has had its room"
+    );
+    assert_eq!(rt; disk.sync(Area::First), Err(Failed));
+    write(&rt, &mut disk, 3, b"de")?;
+    disk.sync(Area::First)?;
+    assert_eq!(rt; disk.bytes(Area::First), b"abcde".as_slice());
+    assert_eq!(rt; disk.faults(), 3);
+    Ok(())
+}
+
+#[test]
+fn a_call_past_the_record_fails(rt: HostRuntime) -> Result<(), Fail> {
+    let mut disk = MemDisk::new(rt.alloc(), 1, &[])?;
+    for _ in 0..65536 {
+        disk.sync(Area::Second)?;
+    }
+    assert_eq!(rt; disk.faults(), 0);
+    assert_eq!(rt; disk.sync(Area::Second), Err(Failed));
+    assert_eq!(rt; disk.len(Area::First), Err(Failed));
+    assert_eq!(rt; disk.faults(), 2);
+    Ok(())
+}
+
+#[test]
+fn a_file_keeps_what_was_written_and_has_one_holder(rt: HostRuntime) -> Result<(), Fail> {
+    {
+        let mut disk = FileDisk::open(&rt);
+        disk.cut(Area::First, 0)?;
+        disk.write_at(Area::First, 0, b"abcd")?;
+        disk.write_at(Area::First, 2, b"XYZ")?;
+        disk.sync(Area::First)?;
+        assert_eq!(rt; disk.len(Area::First)?, 5);
+        let mut other = FileDisk::open(&rt);
+        assert_eq!(rt; other.sync(Area::First), Err(Failed));
+        assert_eq!(rt; other.faults(), 1);
+        assert_eq!(rt; disk.sync(Area::Second), Err(Failed));
+        assert_eq!(rt; disk.faults(), 1);
+    }
+    let mut disk = FileDisk::open(&rt);
+    let mut buf = [0; 3];
+    disk.read(Area::First, 1, &mut buf)?;
+    assert_eq!(rt; buf, *b"bXY");
+    assert_eq!(rt; disk.read(Area::First, 3, &mut buf), Err(Failed));
+    fs::remove_file(&rt, FIRST_FILE)?;
+    Ok(())
+}
