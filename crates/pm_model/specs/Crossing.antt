@@ -1,5 +1,5 @@
 -- Crossings of a sequence of values. Places count from 0. `high` is the threshold plus its hysteresis and `low` the threshold minus it (TS 28.622); what rearms is this project's own.
-use Rattle.std.specs.Prelude.{◌≡◌, ◌⊎◌, ℕ, ◌+◌, ◌≤◌, ◌<◌, List, length, slice_index}
+use Rattle.std.specs.Prelude.{◌≡◌, ◌≢◌, ◌⊎◌, ℕ, ◌+◌, ◌≤◌, ◌<◌, List, length, slice_index}
 
 -- a value between two places rearms: it is at most low, and under high
 pub record IsRearmedBetween (high low : ℕ) (values : List ℕ) (after before : ℕ) : Type 0 where
@@ -50,3 +50,8 @@ pub record AreFlags (high low : ℕ) (values : List ℕ) (flags : ℕ) : Type 0 
 -- at no place do both crossings stand
 abbrev pub NeverBoth : Type 0
 NeverBoth = (high low : ℕ) (values : List ℕ) (place : ℕ) → CrossesUp high low values place → CrossesDown high low values place → ⊥
+
+-- the flags 3 are those of no sequence, and 0 are those of none where low is less than high
+abbrev pub FlagsOfSequences : Type 0
+FlagsOfSequences =
+    (high low : ℕ) (values : List ℕ) (flags : ℕ) → AreFlags high low values flags → (flags ≢ 3) × (flags ≡ 0 → high ≤ low)

@@ -1,13 +1,17 @@
 -- What one more value does to what a sequence leaves, over the places of a sequence.
-use Rattle.std.proofs.Common.{◌≡◌, ◌⊎◌, inl, inr, ℕ, ◌+◌, ◌<◌, ◌≤◌, List, [], ◌∷◌, ◌++◌, length, slice_index, get_or, ap, arith}
-use Rattle.pm_model.specs.Crossing.{IsRearmedBetween, IsRearmedBefore, IsRaisedBefore, CrossesUp, CrossesDown, NeverBoth}
+use Rattle.std.proofs.Common.{◌≡◌, ◌⊎◌, inl, inr, ℕ, zero, suc, ◌+◌, ◌<◌, ◌≤◌, List, [], ◌∷◌, ◌++◌, length, slice_index, get_or, ap, arith}
+use Rattle.pm_model.specs.Crossing.{IsRearmedBetween, IsRearmedBefore, IsRaisedBefore, CrossesUp, CrossesDown, NeverBoth, FlagsOfSequences}
 
--- at no place do both crossings stand: what rearms between a high value and the place is low
-pub never_both : NeverBoth
-never_both high low values place up down =
-    let r = up.rearmed down.raised.place down.raised.earlier down.raised.at_least_high in
-    let over : low < slice_index values r.place = down.raised.none_low r.place r.later r.earlier in
+-- what rearms between a high value and a place is low, and so the high value doesn't count for a downward crossing
+never_rearmed_and_raised : (high low : ℕ) (xs : List ℕ) (n : ℕ) → IsRearmedBefore high low xs n → IsRaisedBefore high low xs n → ⊥
+never_rearmed_and_raised high low xs n rearmed raised =
+    let r = rearmed raised.place raised.earlier raised.at_least_high in
+    let over : low < slice_index xs r.place = raised.none_low r.place r.later r.earlier in
     absurd (omega (arith, over, r.at_most_low))
+
+-- at no place do both crossings stand
+pub never_both : NeverBoth
+never_both high low values place up down = never_rearmed_and_raised high low values place up.rearmed down.raised
 
 -- two sequences have the same values before a place
 abbrev pub AgreeBefore : List ℕ → List ℕ → ℕ → Type 0
@@ -44,14 +48,14 @@ lt_or_le a b = grind arith
 under_differs : (xs : List ℕ) (j n bound : ℕ) → j < n + 1 → slice_index xs n < bound → bound ≤ slice_index xs j → j < n
 under_differs xs j n bound before at_n at_j =
     elim (lt_or_le j n) [
-      inl earlier ↦ earlier
+      | inl earlier ↦ earlier
       | inr other ↦ let e : j ≡ n = omega arith in absurd (omega (arith, ap (λ k. slice_index xs k) e))
     ]
 
 over_differs : (xs : List ℕ) (j n bound : ℕ) → j < n + 1 → bound < slice_index xs n → slice_index xs j ≤ bound → j < n
 over_differs xs j n bound before at_n at_j =
     elim (lt_or_le j n) [
-      inl earlier ↦ earlier
+      | inl earlier ↦ earlier
       | inr other ↦ let e : j ≡ n = omega arith in absurd (omega (arith, ap (λ k. slice_index xs k) e))
     ]
 
@@ -69,7 +73,7 @@ IsRearmedBefore-push high low xs n under (inr low_enough) = λ j lt at_least.
 pub IsRearmedBefore-under : (high low : ℕ) (xs : List ℕ) (n : ℕ) → IsRearmedBefore high low xs (n + 1) → slice_index xs n < high
 IsRearmedBefore-under high low xs n before =
     elim (lt_or_le (slice_index xs n) high) [
-      inl under ↦ under
+      | inl under ↦ under
       | inr at_least ↦ let r = before n (omega arith) at_least in absurd (omega (arith, r.later, r.earlier))
     ]
 
@@ -95,7 +99,7 @@ IsRaisedBefore-push high low xs n over (inl r) =
       at_least_high = r.at_least_high;
       over_low = r.over_low;
       none_low = λ k later earlier. elim (lt_or_le k n) [
-        inl before ↦ r.none_low k later before
+        | inl before ↦ r.none_low k later before
         | inr other ↦ let e : k ≡ n = omega arith in omega (arith, ap (λ i. slice_index xs i) e)
       ];
     }
@@ -106,7 +110,7 @@ IsRaisedBefore-push high low xs n over (inr at_least) =
 pub IsRaisedBefore-over : (high low : ℕ) (xs : List ℕ) (n : ℕ) → IsRaisedBefore high low xs (n + 1) → low < slice_index xs n
 IsRaisedBefore-over high low xs n r =
     elim (lt_or_le r.place n) [
-      inl before ↦ r.none_low n before (omega arith)
+      | inl before ↦ r.none_low n before (omega arith)
       | inr other ↦ let e : r.place ≡ n = omega (arith, r.earlier) in omega (arith, ap (λ i. slice_index xs i) e, r.over_low)
     ]
 
@@ -120,3 +124,55 @@ IsRaisedBefore-pop high low xs n under r =
       over_low = r.over_low;
       none_low = λ k later earlier. r.none_low k later (omega arith);
     }
+
+-- of the places between two, one has a value of at most low, or none has
+low_between : (low : ℕ) (xs : List ℕ) (j n : ℕ)
+    → ((k : ℕ) × (j < k) × (k < n) × (slice_index xs k ≤ low)) ⊎ ((k : ℕ) → j < k → k < n → low < slice_index xs k)
+low_between low xs j zero = inr (λ k later earlier. absurd (omega arith))
+low_between low xs j (suc n) =
+    elim (low_between low xs j n) [
+      | inl found ↦ inl (found.0, found.1, omega (arith, found.2), found.3)
+      | inr none ↦ elim (lt_or_le j n) [
+        | inl later ↦ elim (lt_or_le low (slice_index xs n)) [
+          | inl over ↦ inr (λ k after before. elim (lt_or_le k n) [
+            | inl earlier ↦ none k after earlier
+            | inr other ↦ let e : k ≡ n = omega arith in omega (arith, ap (λ i. slice_index xs i) e)
+          ])
+          | inr at_most ↦ inl (n, later, omega arith, at_most)
+        ]
+        | inr not_later ↦ inr (λ k after before. absurd (omega arith))
+      ]
+    ]
+
+-- what isn't raised is rearmed, where the limits differ
+rearmed_unless_raised : (high low : ℕ) (xs : List ℕ) (n : ℕ) → low < high
+    → (IsRaisedBefore high low xs n → ⊥) → IsRearmedBefore high low xs n
+rearmed_unless_raised high low xs n differ not_raised = λ j lt at_least.
+    elim (low_between low xs j n) [
+      | inl found ↦ record { place = found.0; later = found.1; earlier = found.2; at_most_low = found.3; under_high = omega (arith, found.3) }
+      | inr none ↦ absurd (not_raised (record { place = j; earlier = lt; at_least_high = at_least; over_low = omega arith; none_low = none }))
+    ]
+
+pub flags_of_sequences : FlagsOfSequences
+flags_of_sequences high low values flags is = (
+  λ three. elim is.rearmed [
+    | inl first ↦ elim is.raised [
+      | inl second ↦ never_rearmed_and_raised high low values (length values) first.0 second.0
+      | inr second ↦ absurd (omega (arith, is.both, first.1, second.1))
+    ]
+    | inr first ↦ elim is.raised [
+      | inl second ↦ absurd (omega (arith, is.both, first.1, second.1))
+      | inr second ↦ absurd (omega (arith, is.both, first.1, second.1))
+    ]
+  ],
+  λ none. elim (lt_or_le low high) [
+    | inl differ ↦ elim is.rearmed [
+      | inl first ↦ absurd (omega (arith, is.both, first.1))
+      | inr first ↦ elim is.raised [
+        | inl second ↦ absurd (omega (arith, is.both, second.1))
+        | inr second ↦ absurd (first.0 (rearmed_unless_raised high low values (length values) differ second.0))
+      ]
+    ]
+    | inr at_most ↦ at_most
+  ],
+)

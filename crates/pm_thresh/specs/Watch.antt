@@ -5,8 +5,8 @@ use Rattle.pm_thresh.specs.declared.watch.Watch.{Watch}
 use Rattle.pm_thresh.specs.declared.direction.Direction.{Direction}
 use Rattle.pm_thresh.specs.declared.direction.Direction.TheVariants.{Up, Down}
 
--- the watch has seen exactly these values since it began: it knows of them what the next crossing depends on
-pub record HasSeen (w : Watch) (values : List ℕ) : Type 0 where
+-- the watch stands as after these values since it began: what it keeps is what they leave to the next value
+pub record StandsAfter (w : Watch) (values : List ℕ) : Type 0 where
   pub rearmed : IsTrue w.rearmed ↔ IsRearmedBefore w.high w.low values (length values)
   pub raised : IsTrue w.raised ↔ IsRaisedBefore w.high w.low values (length values)
 
@@ -25,7 +25,7 @@ answer_by w value =
 abbrev pub with_value : Watch → ℕ → Watch
 with_value w value = record w {
   rearmed = nat_lt value w.high && (w.rearmed || nat_le value w.low);
-  raised = nat_lt w.low value && (w.raised || nat_le w.high value)
+  raised = nat_lt w.low value && (w.raised || nat_le w.high value);
 }
 
 -- a list has, at each place of a sequence, the crossing there that the directions keep

@@ -7,7 +7,7 @@ pub mod plain;
 mod watch;
 
 pub use direction::Direction;
-pub use law::never_both;
+pub use law::{flags_of_sequences, never_both};
 pub use watch::Watch;
 
 #[cfg(test)]

@@ -71,7 +71,14 @@ pub fn crosses_down(high: u64, low: u64, values: &[u64], place: usize) -> bool
 }
 
 /// The kept crossing at a place, counted from 0.
-pub fn crossing(high: u64, low: u64, up: bool, down: bool, values: &[u64], place: usize) -> Option<Direction>
+pub fn crossing(
+    high: u64,
+    low: u64,
+    up: bool,
+    down: bool,
+    values: &[u64],
+    place: usize,
+) -> Option<Direction>
     ensures { IsCrossing high low up down values.now place result }
 {
     if up && crosses_up(high, low, values, place) {
@@ -84,7 +91,14 @@ pub fn crossing(high: u64, low: u64, up: bool, down: bool, values: &[u64], place
 }
 
 /// The kept crossing at each place of a whole sequence, in order.
-pub fn crossings(alloc: Global, high: u64, low: u64, up: bool, down: bool, values: &[u64]) -> Result<Vec<Option<Direction>>, AllocError>
+pub fn crossings(
+    alloc: Global,
+    high: u64,
+    low: u64,
+    up: bool,
+    down: bool,
+    values: &[u64],
+) -> Result<Vec<Option<Direction>>, AllocError>
     ensures { IfOk result (λ answers. AreCrossings high low up down values.now answers.items) }
 {
     let mut answers = Vec::new(alloc);
@@ -98,5 +112,6 @@ pub fn crossings(alloc: Global, high: u64, low: u64, up: bool, down: bool, value
 pub fn flags_of(high: u64, low: u64, values: &[u64]) -> u8
     ensures { AreFlags high low values.now result }
 {
-    u8::from(is_rearmed_before(high, low, values, values.len())) + 2 * u8::from(is_raised_before(high, low, values, values.len()))
+    u8::from(is_rearmed_before(high, low, values, values.len()))
+        + 2 * u8::from(is_raised_before(high, low, values, values.len()))
 }

@@ -5,7 +5,7 @@
 
 ghost use Rattle.std.specs.Prelude.{◌≡◌, ◌+◌, ◌≤◌, ◌<◌, ◌≢◌, ℕ, List, [], ◌∷◌, ◌++◌, length, IsNone, ◌↔◌, ◌⊎◌, IsTrue, true, false, nat_le};
 ghost use Rattle.pm_model.specs.Crossing.{AreFlags, CrossesUp, CrossesDown};
-ghost use Rattle.pm_thresh.specs.Watch.{HasSeen, IsCrossing, answer_by, with_value};
+ghost use Rattle.pm_thresh.specs.Watch.{StandsAfter, IsCrossing, answer_by, with_value};
 
 use crate::direction::Direction;
 
@@ -29,7 +29,7 @@ impl Watch {
         ensures low { result.low ≡ low }
         ensures up { result.up ≡ up }
         ensures down { result.down ≡ down }
-        ensures seen { HasSeen result [] }
+        ensures sequence { StandsAfter result [] }
     {
         Watch {
             high,
@@ -52,7 +52,7 @@ impl Watch {
         ensures low { result.low ≡ low }
         ensures up { result.up ≡ up }
         ensures down { result.down ≡ down }
-        ensures seen { (values : List ℕ) → AreFlags high low values flags → HasSeen result values }
+        ensures sequence { (values : List ℕ) → AreFlags high low values flags → StandsAfter result values }
         ensures rearmed { IsTrue result.rearmed ↔ ((flags ≡ 1) ⊎ (flags ≡ 3)) }
         ensures raised { IsTrue result.raised ↔ (2 ≤ flags) }
     {
@@ -69,8 +69,8 @@ impl Watch {
     /// Takes the next value of the sequence, and answers the kept crossing at its place, if one stands there.
     pub fn step(&mut self, value: u64) -> Option<Direction>
         // The answer is that of the whole sequence, whatever values come later.
-        ensures crossing { (values later : List ℕ) → HasSeen self.old values → IsCrossing self.old.high self.old.low self.old.up self.old.down (values ++ value ∷ later) (length values) result }
-        ensures seen { (values : List ℕ) → HasSeen self.old values → HasSeen self.new (values ++ value ∷ []) }
+        ensures crossing { (values later : List ℕ) → StandsAfter self.old values → IsCrossing self.old.high self.old.low self.old.up self.old.down (values ++ value ∷ later) (length values) result }
+        ensures sequence { (values : List ℕ) → StandsAfter self.old values → StandsAfter self.new (values ++ value ∷ []) }
         ensures by_flags { result ≡ answer_by self.old value }
         ensures fields { self.new ≡ with_value self.old value }
     {
@@ -107,7 +107,7 @@ impl Watch {
         ensures low { self.new.low ≡ self.old.low }
         ensures up { self.new.up ≡ self.old.up }
         ensures down { self.new.down ≡ self.old.down }
-        ensures seen { HasSeen self.new [] }
+        ensures sequence { StandsAfter self.new [] }
     {
         self.rearmed = true;
         self.raised = false;
@@ -117,7 +117,7 @@ impl Watch {
     /// most `low` and under `high`, and 2 besides where some value of at least `high` and over `low` has no later one of
     /// at most `low`.
     pub fn flags(&self) -> u8
-        ensures flags { (values : List ℕ) → HasSeen self.now values → AreFlags self.now.high self.now.low values result }
+        ensures flags { (values : List ℕ) → StandsAfter self.now values → AreFlags self.now.high self.now.low values result }
         ensures rearmed { IsTrue self.now.rearmed ↔ ((result ≡ 1) ⊎ (result ≡ 3)) }
         ensures raised { IsTrue self.now.raised ↔ (2 ≤ result) }
     {
