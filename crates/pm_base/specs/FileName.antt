@@ -41,7 +41,7 @@ pub record IsFileSpan (kind : FileType) (begin end : ℕ) : Type 0 where
   pub aligned : minute_of_day begin % minutes ≡ 0
   pub end_in : end ≤ 253402300740
 
--- A name has a text.
+-- What a name must say to have a text.
 pub record IsNameable (name : FileNameParts) : Type 0 where
   pub span : IsFileSpan name.kind name.begin name.end
   pub job_is : IsJobId name.job
