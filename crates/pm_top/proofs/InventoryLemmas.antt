@@ -11,7 +11,7 @@ use Rattle.pm_top.specs.Inventory.{ReadsInventory}
 use Rattle.pm_top.specs.declared.status.Status.{Status}
 use Rattle.pm_top.specs.declared.status.Status.TheVariants.{BadInventory}
 
-by_first : (lines rest : List (List ℕ)) (line : List ℕ) (b : Bool) → lines ≡ line ∷ rest → bytes_eq line (codes "end") ≡ b → inventory_refusal lines ≡ cond b None (Some I1)
+pub by_first : (lines rest : List (List ℕ)) (line : List ℕ) (b : Bool) → lines ≡ line ∷ rest → bytes_eq line (codes "end") ≡ b → inventory_refusal lines ≡ cond b None (Some I1)
 by_first lines rest line b is same = ap inventory_refusal is ∙ ap (λ (v : Bool). cond v None (Some I1)) same
 
 reads : (before after line : List ℕ) (b : Bool) (answer : Result Unit Status) → lines_of before ≡ line ∷ lines_of after → bytes_eq line (codes "end") ≡ b → MatchBool b (answer ≡ Ok tt) (answer ≡ Err (BadInventory 1 I1)) → ReadsInventory before after answer

@@ -5,3 +5,4 @@ pub mod Progress
 pub mod FinishLemmas
 pub mod InventoryLemmas
 pub mod WordsLemmas
+pub mod PlainLemmas

@@ -39,13 +39,13 @@ middle (a ∷ xs) x (b ∷ ys) y zs same =
     ]
 
 -- One more good line.
-AreGood-more : (slots : List Slot) (good : List (List ℕ)) (line : List ℕ) → AreGood slots good → refusal slots (events_of slots good) line ≡ None → AreGood slots (good ++ line ∷ [])
+pub AreGood-more : (slots : List Slot) (good : List (List ℕ)) (line : List ℕ) → AreGood slots good → refusal slots (events_of slots good) line ≡ None → AreGood slots (good ++ line ∷ [])
 AreGood-more slots good line are_good next before other behind split = elim (middle good line before other behind split) [
   | inl last ↦ subst (λ (b : List (List ℕ)). refusal slots (events_of slots b) other ≡ None) last.0 (subst (λ (l : List ℕ). refusal slots (events_of slots good) l ≡ None) last.1 next)
   | inr inner ↦ are_good before other inner.0 inner.1
 ]
 
-no_line_yet : (before : List (List ℕ)) (line : List ℕ) (behind : List (List ℕ)) → [] ≡ before ++ line ∷ behind → ⊥
+pub no_line_yet : (before : List (List ℕ)) (line : List ℕ) (behind : List (List ℕ)) → [] ≡ before ++ line ∷ behind → ⊥
 no_line_yet before line behind split = omega (arith, ap length split, length-append before (line ∷ behind))
 
 -- At first no line is counted.

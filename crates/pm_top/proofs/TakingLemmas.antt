@@ -12,7 +12,7 @@ use Rattle.pm_top.specs.declared.counting.Counting.{Counting}
 use Rattle.pm_top.proofs.TallyLemmas.{ended_lines-same, ended_lines-later}
 
 -- a line that reads as an event has that one
-one_event : (line : List ℕ) (e : Event) → Ok e ≡ read_event the_slots line → events_of the_slots (line ∷ []) ≡ e ∷ []
+pub one_event : (line : List ℕ) (e : Event) → Ok e ≡ read_event the_slots line → events_of the_slots (line ∷ []) ≡ e ∷ []
 one_event line e is = ap (λ (r : Result Event Code). cons_option (event_of_result r) []) (sym is)
 
 -- In the same tick nothing is written.

@@ -12,7 +12,7 @@ use Rattle.pm_model.proofs.EventLemmas.{last_moment-more, events_in-other, event
 use Rattle.pm_top.specs.Tally.{slot_line, tick_lines, lines_before, ended_lines, all_lines}
 
 -- numbers in a row, in two parts
-range_split : (a n k : ℕ) → range_with_len a (n + k) ≡ range_with_len a n ++ range_with_len (a + n) k
+pub range_split : (a n k : ℕ) → range_with_len a (n + k) ≡ range_with_len a n ++ range_with_len (a + n) k
 range_split a zero k =
     let none : zero + k ≡ k = omega arith in
     let same : a ≡ a + zero = omega arith in
@@ -30,7 +30,7 @@ flat_map_same f g a (suc n) agree =
     ∙ ap (λ (l : List ℕ). g a ++ l) (flat_map_same f g (a + 1) n (λ k low high. agree k (omega (arith, low)) (omega (arith, high))))
 
 -- nothing of each number is nothing
-flat_map_none : (f : ℕ → List ℕ) (a n : ℕ) → ((k : ℕ) → a ≤ k → k < a + n → f k ≡ []) → flat_map f (range_with_len a n) ≡ []
+pub flat_map_none : (f : ℕ → List ℕ) (a n : ℕ) → ((k : ℕ) → a ≤ k → k < a + n → f k ≡ []) → flat_map f (range_with_len a n) ≡ []
 flat_map_none f a zero none = refl
 flat_map_none f a (suc n) none =
     ap (λ (l : List ℕ). l ++ flat_map f (range_with_len (a + 1) n)) (none a (omega arith) (omega arith))
@@ -45,7 +45,7 @@ no_lines : (slots : List Slot) (tick first : ℕ) → flat_map (λ place. slot_l
 no_lines [] tick first = refl
 no_lines (slot ∷ slots) tick first = no_lines slots tick (first + 1)
 
-tick_lines-none : (slots : List Slot) (events : List Event) (tick : ℕ) → events_in events tick ≡ [] → tick_lines slots events tick ≡ []
+pub tick_lines-none : (slots : List Slot) (events : List Event) (tick : ℕ) → events_in events tick ≡ [] → tick_lines slots events tick ≡ []
 unfolding lines_of_events
 tick_lines-none slots events tick none = ap (lines_of_events slots tick) none ∙ no_lines slots tick 0
 

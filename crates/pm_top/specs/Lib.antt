@@ -7,3 +7,4 @@ pub mod Taking
 pub mod Finishing
 pub mod Inventory
 pub mod Words
+pub mod Plain

@@ -4,6 +4,7 @@
 mod counting;
 mod inventory;
 mod lines;
+mod plain;
 mod slot;
 mod status;
 mod status_text;
@@ -11,6 +12,7 @@ mod taking;
 mod tallying;
 mod top;
 
+pub use plain::{PlainTally, plain_tally};
 pub use status::Status;
 pub use tallying::tally;
 pub use top::pmd;
