@@ -1,5 +1,5 @@
 -- The tally of a whole input, part by part.
-use Rattle.std.proofs.Common.{◌≡◌, ◌+◌, ◌-◌, ◌*◌, ◌<◌, ◌≤◌, ℕ, suc, Bool, true, false, cond, List, [], ◌∷◌, ◌++◌, length, map, filter, take, drop, get_or, sum, min, codes, Some, None, Result, Ok, Err, IfOk, inl, inr, refl, sym, ◌∙◌, ap, subst, arith, take-append-drop, drop-cons, length-append}
+use Rattle.std.proofs.Common.{◌^◌, ◌≡◌, ◌+◌, ◌-◌, ◌*◌, ◌<◌, ◌≤◌, ℕ, suc, Bool, true, false, cond, List, [], ◌∷◌, ◌++◌, length, map, filter, take, drop, get_or, sum, min, codes, Some, None, Result, Ok, Err, IfOk, inl, inr, refl, sym, ◌∙◌, ap, subst, arith, take-append-drop, drop-cons, length-append}
 use Rattle.std.proofs.lemmas.Bool.Decides.{eqb_tells, leb_tells}
 use Rattle.std.proofs.lemmas.List.{append-nil, length-map, length-take, take-map, map-append, take_more, get_or-map, take_all, drop_all}
 use Rattle.std.proofs.lemmas.Grind.{flat_map-append}
@@ -181,11 +181,11 @@ outcome_behind input text WriteFault by_rule tallied = absurd by_rule
 outcome_behind input text (BadInventory line code) by_rule tallied = absurd tallied.1
 outcome_behind input text Memory by_rule tallied = absurd by_rule
 
-pub outcome_of : {E : Type 0} (input first : List ℕ) (others : List (List ℕ)) (answer : Result PlainTally E) → lines_of input ≡ first ∷ others → bytes_eq first (codes "end") ≡ true → IfOk answer (λ p. (total : ℕ) → IsTallied the_slots 2 total others (Unit {0}) [] p.text p.status) → IfOk answer (λ p. IsByRule p.status) → IfOk answer (λ p. IsOutcome input (Unit {0}) [] p.text p.status)
-outcome_of input first others (Ok p) lines end tallied by_rule =
+pub outcome_of : {E : Type 0} (input first : List ℕ) (others : List (List ℕ)) (answer : Result PlainTally E) → length input < 2 ^ 40 → lines_of input ≡ first ∷ others → bytes_eq first (codes "end") ≡ true → IfOk answer (λ p. (total : ℕ) → total < 2 ^ 40 → IsTallied the_slots 2 total others (Unit {0}) [] p.text p.status) → IfOk answer (λ p. IsByRule p.status) → IfOk answer (λ p. IsOutcome input (Unit {0}) [] p.text p.status)
+outcome_of input first others (Ok p) short lines end tallied by_rule =
     outcome_behind input p.text p.status by_rule
-    (by_first (lines_of input) others first true lines end, subst (λ (l : List (List ℕ)). IsTallied the_slots 2 (length input) l (Unit {0}) [] p.text p.status) (sym (ap (drop 1) lines)) (tallied (length input)))
-outcome_of input first others (Err e) lines end tallied by_rule = tt
+    (by_first (lines_of input) others first true lines end, subst (λ (l : List (List ℕ)). IsTallied the_slots 2 (length input) l (Unit {0}) [] p.text p.status) (sym (ap (drop 1) lines)) (tallied (length input) short))
+outcome_of input first others (Err e) short lines end tallied by_rule = tt
 
 -- The first element stands before the others.
 pub split_first : {A : Type 0} (f : A → List ℕ) (xs : List A) (d : A) → 1 ≤ length xs → map f xs ≡ f (get_or xs 0 d) ∷ map f (take (length xs - 1) (drop 1 xs))

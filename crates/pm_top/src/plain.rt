@@ -45,8 +45,9 @@ pub struct Refused {
     pub code: Code,
 }
 
-/// Tallies an input. Want of memory is the one error.
+/// Tallies an input of fewer bytes than are read at the most. Want of memory is the one error.
 pub fn plain_tally(alloc: Global, input: &[u8]) -> Result<PlainTally, AllocError>
+    requires { length input.now < 2 ^ 40 }
     ensures outcome { IfOk result (λ plain. IsOutcome input.now (Unit {0}) [] plain.text plain.status) }
     ensures by_rule { IfOk result (λ plain. IsByRule plain.status) }
 {
@@ -92,7 +93,7 @@ fn lines_among<'a, 'b>(parts: &'a [&'b [u8]]) -> &'a [&'b [u8]]
 
 // Tallies the lines of events.
 fn tally_of(alloc: Global, lines: &[&[u8]]) -> Result<PlainTally, AllocError>
-    ensures tallied { IfOk result (λ plain. (total : ℕ) → IsTallied the_slots 2 total (map (λ line. line.now) lines.now) (Unit {0}) [] plain.text plain.status) }
+    ensures tallied { IfOk result (λ plain. (total : ℕ) → total < 2 ^ 40 → IsTallied the_slots 2 total (map (λ line. line.now) lines.now) (Unit {0}) [] plain.text plain.status) }
     ensures by_rule { IfOk result (λ plain. IsByRule plain.status) }
 {
     let GoodEvents { events, refused } = good_events(alloc, lines)?;

@@ -12,4 +12,4 @@ returns-then-eq-clause-outcome c =
     let all : map (λ line. line.now) lines ≡ lines_of c.args.input.now =
     c.lines_among.ensures ∙ ap lines_of_parts (ap (map (λ (part : Bor (List ℕ)). part.now)) c.deref.ensures.value ∙ c.in_ok-parts.ensures) in
     let end : bytes_eq first (codes "end") ≡ true = ap (bytes_eq first) (sym c.as_slice.ensures) ∙ sym c.eq.ensures ∙ c.if-eq.true in
-    outcome_of c.args.input.now first _ c.tally_of.result (sym all ∙ split_first (λ line. line.now) lines none c.in-len1-up.len_at_least) end c.tally_of.ensures.tallied c.tally_of.ensures.by_rule
+    outcome_of c.args.input.now first _ c.tally_of.result c.requires (sym all ∙ split_first (λ line. line.now) lines none c.in-len1-up.len_at_least) end c.tally_of.ensures.tallied c.tally_of.ensures.by_rule

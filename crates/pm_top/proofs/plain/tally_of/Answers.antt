@@ -10,7 +10,7 @@ use Rattle.pm_top.proofs.PlainLemmas.{refused_at}
 use Rattle.pm_top.proofs.plain.tally_of.Goals as goal
 
 pub returns-clause-tallied : goal.returns-clause-tallied
-returns-clause-tallied c = λ total.
+returns-clause-tallied c = λ total few.
     let lines = map (λ line. line.now) c.args.lines.now in
     let events = c.in_ok-events.field-0.events.items in
     let found = subst (λ (r : Option Refused). FindsGood lines events r) c.in-Some.is c.in_ok-events.ensures.good in
