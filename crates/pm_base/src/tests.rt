@@ -7,12 +7,18 @@ fn byte_strings_hold_the_bytes_given(rt: HostRuntime) -> Result<(), Fail> {
     let text = Text::from_slice(rt.alloc(), b"NRCellCU=7")?;
     assert_eq!(rt; text.as_bytes(), b"NRCellCU=7".as_slice());
     assert_eq!(rt; text.len(), 10);
-    assert_eq!(rt; Text::from_vec(text.into_vec()).as_bytes(), b"NRCellCU=7".as_slice());
+    assert_eq!(rt;
+        Text::from_vec(text.into_vec()).as_bytes(),
+        b"NRCellCU=7".as_slice()
+    );
     assert!(rt; Text::new(rt.alloc()).is_empty());
     let blob = Blob::from_slice(rt.alloc(), b"{}")?;
     assert_eq!(rt; blob.as_bytes(), b"{}".as_slice());
     assert_eq!(rt; blob.len(), 2);
-    assert_eq!(rt; Blob::from_vec(blob.into_vec()).as_bytes(), b"{}".as_slice());
+    assert_eq!(rt;
+        Blob::from_vec(blob.into_vec()).as_bytes(),
+        b"{}".as_slice()
+    );
     assert!(rt; Blob::new(rt.alloc()).is_empty());
     Ok(())
 }
@@ -141,7 +147,12 @@ fn numbers_and_moments_are_read_up_to_their_ends(rt: HostRuntime) {
     for (bytes, moment) in moments {
         assert_eq!(rt; read_moment(bytes), moment, "at {bytes:?}");
     }
-    for (moment, number) in [(59, 0), (60, 1), (1699999259, 28333320), (LAST_MOMENT, 4223371679)] {
+    for (moment, number) in [
+        (59, 0),
+        (60, 1),
+        (1699999259, 28333320),
+        (LAST_MOMENT, 4223371679),
+    ] {
         assert_eq!(rt; tick(moment), number, "at {moment}");
     }
 }
