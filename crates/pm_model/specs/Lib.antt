@@ -1,3 +1,4 @@
 pub mod Slot
 pub mod EventLine
 pub mod Event
+pub mod Crossing
