@@ -1,5 +1,5 @@
 -- A watch that takes one more value.
-use Rattle.std.proofs.Common.{◌≡◌, ◌⊎◌, inl, inr, ◌↔◌, ℕ, ◌+◌, ◌<◌, ◌≤◌, Bool, true, false, ◌&&◌, ◌||◌, nat_le, nat_lt, IsTrue, List, [], ◌∷◌, ◌++◌, length, slice_index, length-append, Option, Some, None, if◌then◌else◌, refl, ap, sym, subst, arith, ltb-true, leb-true, lt-ltb, le-leb}
+use Rattle.std.proofs.Common.{◌≡◌, ◌⊎◌, inl, inr, ◌↔◌, ℕ, ◌+◌, ◌<◌, ◌≤◌, Bool, true, false, ◌&&◌, ◌||◌, nat_le, nat_lt, IsTrue, List, [], ◌∷◌, ◌++◌, length, slice_index, length-append, Option, Some, None, if◌then◌else◌, refl, sym, subst, arith, ltb-true, leb-true, lt-ltb, le-leb}
 use Rattle.std.proofs.Math.ListN.{get_or-append}
 use Rattle.std.proofs.Math.Seq.{get_or-append_seam}
 use Rattle.pm_model.specs.Crossing.{IsRearmedBefore, IsRaisedBefore, CrossesUp, CrossesDown}
@@ -144,15 +144,28 @@ down_test w xs ys v seen =
     )
 
 -- the answer by two tests that never both hold
+abbrev answer_of : Bool → Bool → Option Direction
+answer_of rises falls = if rises then Some Up else (if falls then Some Down else None)
+
 by_tests : (rises falls : Bool) (Rises Falls : Type 0) → IsTrue rises ↔ Rises → IsTrue falls ↔ Falls → (Rises → Falls → ⊥)
-    → (((if rises then Some Up else (if falls then Some Down else None)) ≡ Some Up) ↔ Rises)
-    × (((if rises then Some Up else (if falls then Some Down else None)) ≡ Some Down) ↔ Falls)
-by_tests true falls Rises Falls rise fall never =
-    ((λ _. rise.0 refl, λ _. refl), (λ h. absurd (cc), λ p. absurd (never (rise.0 refl) p)))
-by_tests false true Rises Falls rise fall never =
-    ((λ h. absurd (cc), λ p. let h : false ≡ true = rise.1 p in absurd (cc)), (λ _. fall.0 refl, λ _. refl))
-by_tests false false Rises Falls rise fall never =
-    ((λ h. absurd (cc), λ p. let h : false ≡ true = rise.1 p in absurd (cc)), (λ h. absurd (cc), λ p. let h : false ≡ true = fall.1 p in absurd (cc)))
+    → ((answer_of rises falls ≡ Some Up) ↔ Rises)
+    × ((answer_of rises falls ≡ Some Down) ↔ Falls)
+    × ((answer_of rises falls ≡ None) ↔ ((Rises → ⊥) × (Falls → ⊥)))
+by_tests true falls Rises Falls rise fall never = (
+  (λ _. rise.0 refl, λ _. refl),
+  (λ h. absurd (cc), λ p. absurd (never (rise.0 refl) p)),
+  (λ h. absurd (cc), λ p. absurd (p.0 (rise.0 refl))),
+)
+by_tests false true Rises Falls rise fall never = (
+  (λ h. absurd (cc), λ p. let h : false ≡ true = rise.1 p in absurd (cc)),
+  (λ _. fall.0 refl, λ _. refl),
+  (λ h. absurd (cc), λ p. absurd (p.1 (fall.0 refl))),
+)
+by_tests false false Rises Falls rise fall never = (
+  (λ h. absurd (cc), λ p. let h : false ≡ true = rise.1 p in absurd (cc)),
+  (λ h. absurd (cc), λ p. let h : false ≡ true = fall.1 p in absurd (cc)),
+  (λ _. (λ p. let h : false ≡ true = rise.1 p in absurd (cc), λ p. let h : false ≡ true = fall.1 p in absurd (cc)), λ _. refl),
+)
 
 -- a crossing that the directions keep, as a test
 kept_test : (kept crosses : Bool) (Crosses : Type 0) → IsTrue crosses ↔ Crosses → IsTrue (kept && crosses) ↔ (IsTrue kept × Crosses)
@@ -171,4 +184,4 @@ IsCrossing-answer_by w xs ys v seen =
     (kept_test w.up (w.rearmed && nat_le w.high v) (CrossesUp w.high w.low (xs ++ v ∷ ys) (length xs)) (up_test w xs ys v seen))
     (kept_test w.down (w.raised && nat_le v w.low) (CrossesDown w.high w.low (xs ++ v ∷ ys) (length xs)) (down_test w xs ys v seen))
     (λ up down. never_both w.high w.low (xs ++ v ∷ ys) (length xs) up.1 down.1) in
-    record { upward = both.0; downward = both.1 }
+    record { upward = both.0; downward = both.1; none = both.2 }

@@ -1,5 +1,5 @@
 -- A watch and the sequence of values that it has seen.
-use Rattle.std.specs.Prelude.{◌≡◌, ◌↔◌, ℕ, ◌≤◌, Bool, ◌&&◌, ◌||◌, IsTrue, nat_le, nat_lt, List, length, ◌<◌, slice_index_or, Option, Some, None, if◌then◌else◌}
+use Rattle.std.specs.Prelude.{◌≡◌, ◌↔◌, ℕ, Bool, ◌&&◌, ◌||◌, IsTrue, nat_le, nat_lt, List, length, ◌<◌, slice_index_or, Option, Some, None, if◌then◌else◌}
 use Rattle.pm_model.specs.Crossing.{IsRearmedBefore, IsRaisedBefore, CrossesUp, CrossesDown}
 use Rattle.pm_thresh.specs.declared.watch.Watch.{Watch}
 use Rattle.pm_thresh.specs.declared.direction.Direction.{Direction}
@@ -10,10 +10,11 @@ pub record StandsAfter (w : Watch) (values : List ℕ) : Type 0 where
   pub rearmed : IsTrue w.rearmed ↔ IsRearmedBefore w.high w.low values (length values)
   pub raised : IsTrue w.raised ↔ IsRaisedBefore w.high w.low values (length values)
 
--- an answer is the crossing at a place of a sequence, if the directions keep it
+-- an answer is the kept crossing at a place of a sequence, or none exactly where no kept one stands
 pub record IsCrossing (high low : ℕ) (up down : Bool) (values : List ℕ) (place : ℕ) (answer : Option Direction) : Type 0 where
   pub upward : (answer ≡ Some Up) ↔ (IsTrue up × CrossesUp high low values place)
   pub downward : (answer ≡ Some Down) ↔ (IsTrue down × CrossesDown high low values place)
+  pub none : (answer ≡ None) ↔ ((IsTrue up × CrossesUp high low values place → ⊥) × (IsTrue down × CrossesDown high low values place → ⊥))
 
 -- the answer by what the watch keeps, whether or not it has seen a sequence
 abbrev pub answer_by : Watch → ℕ → Option Direction

@@ -1,5 +1,5 @@
 //! The definitions as they stand, computed slowly over a whole list, for tests to compare with.
-ghost use Rattle.std.specs.Prelude.{◌≡◌, ◌+◌, ◌<◌, ◌≤◌, ◌↔◌, ℕ, List, length, slice_index, slice_get, IsTrue, IfOk, Option, Some};
+ghost use Rattle.std.specs.Prelude.{◌≤◌, ◌<◌, ◌↔◌, ℕ, length, slice_index, IsTrue, IfOk};
 ghost use Rattle.pm_model.specs.Crossing.{IsRearmedBetween, IsRearmedBefore, IsRaisedBefore, CrossesUp, CrossesDown, AreFlags};
 ghost use Rattle.pm_thresh.specs.Watch.{IsCrossing, AreCrossings};
 

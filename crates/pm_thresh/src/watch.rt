@@ -3,8 +3,8 @@
 //! A watch keeps two facts of the values since it began: whether each value of at least `high` has a later one that
 //! rearms, and whether some value over the threshold has no later one of at most `low`.
 
-ghost use Rattle.std.specs.Prelude.{◌≡◌, ◌+◌, ◌≤◌, ◌<◌, ◌≢◌, ℕ, List, [], ◌∷◌, ◌++◌, length, IsNone, ◌↔◌, ◌⊎◌, IsTrue, true, false, nat_le};
-ghost use Rattle.pm_model.specs.Crossing.{AreFlags, CrossesUp, CrossesDown};
+ghost use Rattle.std.specs.Prelude.{◌≡◌, ◌≤◌, ◌↔◌, ◌⊎◌, ◌∷◌, ◌++◌, ℕ, List, [], length, IsTrue};
+ghost use Rattle.pm_model.specs.Crossing.{AreFlags};
 ghost use Rattle.pm_thresh.specs.Watch.{StandsAfter, IsCrossing, answer_by, with_value};
 
 use crate::direction::Direction;
@@ -69,7 +69,8 @@ impl Watch {
     /// Takes the next value of the sequence, and answers the kept crossing at its place, if one stands there.
     pub fn step(&mut self, value: u64) -> Option<Direction>
         // The answer is that of the whole sequence, whatever values come later.
-        ensures crossing { (values later : List ℕ) → StandsAfter self.old values → IsCrossing self.old.high self.old.low self.old.up self.old.down (values ++ value ∷ later) (length values) result }
+        ensures crossing { (values later : List ℕ) → StandsAfter self.old values
+            → IsCrossing self.old.high self.old.low self.old.up self.old.down (values ++ value ∷ later) (length values) result }
         ensures sequence { (values : List ℕ) → StandsAfter self.old values → StandsAfter self.new (values ++ value ∷ []) }
         ensures by_flags { result ≡ answer_by self.old value }
         ensures fields { self.new ≡ with_value self.old value }
@@ -117,6 +118,7 @@ impl Watch {
     /// most `low` and under `high`, and 2 besides where some value of at least `high` and over `low` has no later one of
     /// at most `low`.
     pub fn flags(&self) -> u8
+        ensures at_most { result ≤ 3 }
         ensures flags { (values : List ℕ) → StandsAfter self.now values → AreFlags self.now.high self.now.low values result }
         ensures rearmed { IsTrue self.now.rearmed ↔ ((result ≡ 1) ⊎ (result ≡ 3)) }
         ensures raised { IsTrue self.now.raised ↔ (2 ≤ result) }

@@ -1,4 +1,4 @@
-use Rattle.std.proofs.Common.{◌≡◌, ℕ, ◌<◌, ◌≤◌, length, slice_index_or, None}
+use Rattle.std.proofs.Common.{◌≡◌, ℕ, ◌<◌, length, slice_index_or, None}
 use Rattle.pm_thresh.specs.Watch.{IsCrossing}
 use Rattle.pm_thresh.proofs.plain.crossings.Given as goal
 
