@@ -1,3 +1,9 @@
 pub mod Slot
 pub mod EventLine
 pub mod Event
+pub mod Inventory
+pub mod InventoryFields
+pub mod Default
+pub use Rattle.pm_dn.specs.Tree
+pub use Rattle.pm_dn.specs.Containment
+pub use Rattle.pm_meas.specs.Def

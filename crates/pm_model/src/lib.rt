@@ -1,8 +1,15 @@
 //! The model of what is measured: slots, events and the lines that carry them.
 #![tactic(auto)]
 
+mod default;
 mod event;
 mod event_line;
+mod inventory;
+mod listing;
 
 pub use event::Event;
 pub use event_line::{EventLine, read_event_line};
+pub use inventory::{InvError, Inventory, SLOTS};
+
+#[cfg(test)]
+mod tests;
