@@ -4,6 +4,7 @@ pub mod Event
 pub mod Inventory
 pub mod InventoryFields
 pub mod Default
+pub mod Reading
 pub use Rattle.pm_dn.specs.Tree
 pub use Rattle.pm_dn.specs.Containment
 pub use Rattle.pm_meas.specs.Def

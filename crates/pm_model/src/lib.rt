@@ -5,10 +5,12 @@ mod default;
 mod event;
 mod event_line;
 mod inventory;
+mod line;
 mod listing;
 
 pub use event::Event;
 pub use event_line::{EventLine, read_event_line};
+pub use line::{Stop, take_line};
 pub use inventory::{InvError, Inventory, SLOTS};
 
 #[cfg(test)]

@@ -50,7 +50,11 @@ fn the_default_inventory_has_15_slots_and_its_text(rt: HostRuntime) -> Result<()
         (2, 9, None),
     ];
     for (object, metric, want) in cases {
-        assert_eq!(rt; inventory.slot(object, metric), want, "at {object} and {metric}");
+        assert_eq!(rt;
+            inventory.slot(object, metric),
+            want,
+            "at {object} and {metric}"
+        );
     }
     Ok(())
 }
@@ -100,8 +104,9 @@ fn as_many_as_4096_slots_are_taken(rt: HostRuntime) -> Result<(), Fail> {
             &[b"ManagedElement=ME1", b"ManagedElement=ME1,GNBDUFunction=1"],
         );
         for cell in 0..cells {
-            let name =
-                format!(in rt.alloc(); "ManagedElement=ME1,GNBDUFunction=1,NRCellDU={cell}")?;
+            let name = format!(in rt.alloc();
+                "ManagedElement=ME1,GNBDUFunction=1,NRCellDU={cell}"
+            )?;
             assert!(rt; tree.add(name.as_bytes()).is_ok());
         }
         let mut catalogue = Catalogue::new(rt.alloc());
