@@ -10,8 +10,8 @@ mod listing;
 
 pub use event::Event;
 pub use event_line::{EventLine, read_event_line};
-pub use line::{Stop, take_line};
 pub use inventory::{InvError, Inventory, SLOTS};
+pub use line::{Stop, take_line};
 
 #[cfg(test)]
 mod tests;

@@ -1,10 +1,9 @@
 //! Inventories in memory.
 
 use super::*;
+use pm_base::Code;
 use pm_dn::Tree;
 use pm_meas::Catalogue;
-use std::alloc::Global;
-use std::process::Abort;
 use std::test::Fail;
 
 const LISTING: &[u8] = b"object ManagedElement=ME1
@@ -59,50 +58,75 @@ fn the_default_inventory_has_15_slots_and_its_text(rt: HostRuntime) -> Result<()
     Ok(())
 }
 
-fn tree_of(rt: &impl Abort, alloc: Global, objects: &[&[u8]]) -> Tree {
-    let mut tree = Tree::new(alloc);
-    for name in objects {
-        assert!(rt; tree.add(name).is_ok(), "at {name:?}");
+#[test]
+fn an_inventory_without_a_root_or_a_slot_is_refused(rt: HostRuntime) {
+    // (whether a ManagedElement stands, the one measurement, answer)
+    let cases: [(bool, &[u8], Option<InvError>); 4] = [
+        (false, b"A.b ManagedElement CC SUM", Some(InvError::N10)),
+        (false, b"A.b NRCellCU CC SUM", Some(InvError::N10)),
+        (true, b"A.b NRCellCU CC SUM", Some(InvError::M5)),
+        (true, b"A.b ManagedElement CC SUM", None),
+    ];
+    for (root, words, want) in cases {
+        let mut tree = Tree::new(rt.alloc());
+        if root {
+            assert!(rt; tree.add(b"ManagedElement=ME1").is_ok());
+        }
+        let mut catalogue = Catalogue::new(rt.alloc());
+        assert!(rt; catalogue.add(words).is_ok());
+        let answer = Inventory::finish(rt.alloc(), tree, catalogue).err();
+        assert_eq!(rt; answer, want, "at {words:?}");
     }
-    tree
-}
-
-fn catalogue_of(rt: &impl Abort, alloc: Global, measures: &[&[u8]]) -> Catalogue {
-    let mut catalogue = Catalogue::new(alloc);
-    for words in measures {
-        assert!(rt; catalogue.add(words).is_ok(), "at {words:?}");
-    }
-    catalogue
 }
 
 #[test]
-fn an_inventory_without_a_root_or_a_slot_is_refused(rt: HostRuntime) {
-    let root: &[&[u8]] = &[b"ManagedElement=ME1"];
-    let of_root: &[&[u8]] = &[b"A.b ManagedElement CC SUM"];
-    let of_cell: &[&[u8]] = &[b"A.b NRCellCU CC SUM"];
-    let cases: [(&[&[u8]], &[&[u8]], Option<InvError>); 5] = [
-        (&[], &[], Some(InvError::N10)),
-        (&[], of_root, Some(InvError::N10)),
-        (root, &[], Some(InvError::M5)),
-        (root, of_cell, Some(InvError::M5)),
-        (root, of_root, None),
+fn a_line_is_refused_by_the_first_rule_broken(rt: HostRuntime) {
+    let mut tree = Tree::new(rt.alloc());
+    let mut catalogue = Catalogue::new(rt.alloc());
+    let cases: [(&[u8], Option<Stop>); 15] = [
+        (
+            b"measure RRC NRCellCU CC SUM",
+            Some(Stop::Refused(Code::M1)),
+        ),
+        (
+            b"measure A.b NRCellCU CC MEAN",
+            Some(Stop::Refused(Code::M2)),
+        ),
+        (b"measure A.b NRCellCU CC SUM", None),
+        (
+            b"measure A.b NRCellCU CC SUM",
+            Some(Stop::Refused(Code::M3)),
+        ),
+        (
+            b"measure  A.c NRCellCU CC SUM",
+            Some(Stop::Refused(Code::M1)),
+        ),
+        (b"measure A.c NRCellCU", Some(Stop::Refused(Code::I1))),
+        (b"measure", Some(Stop::Refused(Code::I1))),
+        (b"objects x", Some(Stop::Refused(Code::I1))),
+        (b"object", Some(Stop::Refused(Code::I1))),
+        (b"", Some(Stop::Refused(Code::I1))),
+        (b"object ", Some(Stop::Refused(Code::N1))),
+        (b"object NRCellCU=7", Some(Stop::Refused(Code::N6))),
+        (b"object ManagedElement=ME1", None),
+        (b"object ManagedElement=ME1", Some(Stop::Refused(Code::N8))),
+        (b"object ManagedElement=ME2", Some(Stop::Refused(Code::N10))),
     ];
-    for (objects, measures, want) in cases {
-        let tree = tree_of(&rt, rt.alloc(), objects);
-        let catalogue = catalogue_of(&rt, rt.alloc(), measures);
-        assert_eq!(rt; Inventory::finish(rt.alloc(), tree, catalogue).err(), want);
+    for (line, want) in cases {
+        let answer = take_line(&mut tree, &mut catalogue, line).err();
+        assert_eq!(rt; answer, want, "at {line:?}");
     }
+    assert_eq!(rt; tree.len(), 1);
+    assert_eq!(rt; catalogue.len(), 1);
 }
 
 #[test]
 fn as_many_as_4096_slots_are_taken(rt: HostRuntime) -> Result<(), Fail> {
     // 64 measurements of 64 cells, and then of 65.
     for (cells, want) in [(64, None), (65, Some(InvError::M5))] {
-        let mut tree = tree_of(
-            &rt,
-            rt.alloc(),
-            &[b"ManagedElement=ME1", b"ManagedElement=ME1,GNBDUFunction=1"],
-        );
+        let mut tree = Tree::new(rt.alloc());
+        assert!(rt; tree.add(b"ManagedElement=ME1").is_ok());
+        assert!(rt; tree.add(b"ManagedElement=ME1,GNBDUFunction=1").is_ok());
         for cell in 0..cells {
             let name = format!(in rt.alloc();
                 "ManagedElement=ME1,GNBDUFunction=1,NRCellDU={cell}"
