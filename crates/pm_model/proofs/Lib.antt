@@ -1,2 +1,5 @@
 pub mod EventLineLemmas
 pub mod EventLemmas
+pub mod SlotLemmas
+pub mod ListingLemmas
+pub mod DefaultLemmas

@@ -2,3 +2,10 @@ pub mod Slot
 pub mod EventLine
 pub mod Event
 pub mod Crossing
+pub mod Inventory
+pub mod InventoryFields
+pub mod Default
+pub mod Reading
+pub use Rattle.pm_dn.specs.Tree
+pub use Rattle.pm_dn.specs.Containment
+pub use Rattle.pm_meas.specs.Def

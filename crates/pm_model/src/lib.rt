@@ -1,8 +1,17 @@
 //! The model of what is measured: slots, events and the lines that carry them.
 #![tactic(auto)]
 
+mod default;
 mod event;
 mod event_line;
+mod inventory;
+mod line;
+mod listing;
 
 pub use event::Event;
 pub use event_line::{EventLine, read_event_line};
+pub use inventory::{InvError, Inventory, SLOTS};
+pub use line::{Stop, take_line};
+
+#[cfg(test)]
+mod tests;
