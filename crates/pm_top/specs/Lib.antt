@@ -8,3 +8,4 @@ pub mod Finishing
 pub mod Inventory
 pub mod Words
 pub mod Plain
+pub mod StatusText

@@ -1,8 +1,13 @@
 //! The text of a status, as it stands on standard error behind the program's name.
+ghost use Rattle.std.specs.Prelude.{Some};
+ghost use Rattle.pm_top.specs.StatusText.{status_text};
+
 use crate::Status;
 use std::fmt;
 
 impl fmt::Display for Status {
+    ghost output = { λ s. Some (status_text s) };
+
     fn fmt<W: fmt::Write>(&self, f: &mut fmt::Formatter<W>) -> fmt::Result {
         let exit = self.exit();
         match *self {
