@@ -76,7 +76,7 @@ mod tests {
         let mut input = Reading::new(Cursor::new(b"end\n".as_slice()));
         let mut buf = [0u8; 8];
         assert_eq!(rt; input.read(&mut buf), Ok(4));
-        assert_eq!(rt; buf[..4], *b"end\n");
+        assert_eq!(rt; &buf[..4], b"end\n".as_slice());
         assert_eq!(rt; input.read(&mut buf), Ok(0));
         assert_eq!(rt; input.faults, 0);
         let mut room = [0u8; 4];
