@@ -1,0 +1,4 @@
+pub mod Target
+pub mod Resource
+pub mod Route
+pub mod Reply
