@@ -3,3 +3,10 @@ pub mod PatternLemmas
 pub mod ResourceLemmas
 pub mod RouteLemmas
 pub mod ReplyLemmas
+pub mod FieldLemmas
+pub mod HeadLemmas
+pub mod GatherLemmas
+pub mod StepLemmas
+pub mod PieceLemmas
+pub mod SightLemmas
+pub mod ReadLemmas
