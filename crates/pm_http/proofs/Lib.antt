@@ -8,5 +8,4 @@ pub mod HeadLemmas
 pub mod GatherLemmas
 pub mod StepLemmas
 pub mod PieceLemmas
-pub mod SightLemmas
 pub mod ReadLemmas

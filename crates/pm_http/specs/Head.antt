@@ -1,6 +1,6 @@
 -- What the head of a request says of its body and of its connection (RFC 9112, sections 6 and 9; the codes and the limits
 -- are this project's own).
-use Rattle.std.specs.Prelude.{◌≡◌, ◌==◌, ◌||◌, ◌&&◌, ℕ, Bool, List, [], ◌∷◌, map, length, nat_lt, nat_le, codes, bytes_eq, if◌then◌else◌, Option, Some, None}
+use Rattle.std.specs.Prelude.{◌≡◌, ◌≤◌, ◌==◌, ◌||◌, ◌&&◌, ℕ, Bool, List, [], ◌∷◌, map, length, nat_lt, nat_le, codes, bytes_eq, if◌then◌else◌, Option, Some, None}
 use Rattle.std.specs.List.{filter, list_any}
 use Rattle.std.specs.Str.{str_eq_ignore_ascii_case}
 use Rattle.httparse.specs.Grammar.{RequestHead, trim_ows}
@@ -37,6 +37,11 @@ abbrev pub size_by : Bool → List (List ℕ) → BodySize
 size_by needed [] = if needed then Refused H7 else Bytes 0
 size_by needed (value ∷ []) = if is_number 12 value then size_within (number_of value) else Refused H7
 size_by needed (first ∷ second ∷ more) = Refused H7
+
+-- A length that is told is in the limit.
+abbrev pub IsWithinLimit : BodySize → Type 0
+IsWithinLimit (Refused code) = Unit {0}
+IsWithinLimit (Bytes size) = size ≤ 16777216
 
 -- The length of the body by the method and the fields, or the first rule that they break.
 abbrev pub size_of : List ℕ → List (List ℕ × List ℕ) → BodySize

@@ -72,3 +72,8 @@ abbrev pub IsPlaced : ℕ → Next → Type 0
 IsPlaced offset (next.Framing code at) = at ≡ offset
 IsPlaced offset (next.CutShort at) = at ≡ offset
 IsPlaced offset _ = Unit {0}
+
+-- The body of a request has at most 16,777,216 bytes.
+abbrev pub IsSmall : Next → Type 0
+IsSmall (next.Request request) = length request.body ≤ 16777216
+IsSmall _ = Unit {0}

@@ -22,6 +22,8 @@ mod routing;
 mod sight;
 mod size;
 mod taking;
+#[cfg(test)]
+mod tests;
 mod trimming;
 
 pub use error::{HttpError, ReplyError, RouteError};

@@ -5,8 +5,8 @@ ghost use Rattle.httparse.specs.Grammar.{RequestHead};
 ghost use Rattle.httparse.specs.Spans.{IsRequestAt, IsHeaderWithin, header_bytes};
 ghost use Rattle.pm_base.specs.Causes.{Rose};
 ghost use Rattle.pm_base.specs.Feed.{left_to, KnowsEnd};
-ghost use Rattle.pm_http.specs.Head.{body_size, first_of, values_of};
-ghost use Rattle.pm_http.specs.Stream.{IsNext, IsPlaced, IsOf};
+ghost use Rattle.pm_http.specs.Head.{body_size, first_of, values_of, IsWithinLimit};
+ghost use Rattle.pm_http.specs.Stream.{IsNext, IsPlaced, IsSmall, IsOf};
 ghost use Rattle.pm_http.specs.Piece.{IsGathered, IsParsed};
 
 use crate::body::{body_room, fill};
@@ -30,6 +30,7 @@ pub fn next_request<S: Source>(
     requires { S.IsTold → KnowsEnd feed.old (S.left source.old) }
     ensures next { S.IsTold → IfOk result (λ next. IsNext (left_to feed.old (S.left source.old)) feed.old.given next (left_to feed.new (S.left source.new))) }
     ensures placed { IfOk result (IsPlaced feed.old.given) }
+    ensures small { IfOk result IsSmall }
     ensures given { S.IsTold → feed.new.given + length (left_to feed.new (S.left source.new)) ≡ feed.old.given + length (left_to feed.old (S.left source.old)) }
     ensures knows_end { S.IsTold → KnowsEnd feed.new (S.left source.new) }
     ensures failed { result ≡ Err HttpError.ReadFault → Rose (S.faults source.old) (S.faults source.new) }
@@ -69,6 +70,7 @@ fn read_rest<S: Source>(
     requires parsed { IsParsed head.now fields.now spans }
     ensures next { S.IsTold → (all : List ℕ) → IsGathered all head.now (left_to feed.old (S.left source.old)) fields.now spans → IfOk result (λ next. IsNext all offset next (left_to feed.new (S.left source.new))) }
     ensures placed { IfOk result (IsPlaced offset) }
+    ensures small { IfOk result IsSmall }
     ensures given { S.IsTold → feed.new.given + length (left_to feed.new (S.left source.new)) ≡ feed.old.given + length (left_to feed.old (S.left source.old)) }
     ensures knows_end { S.IsTold → KnowsEnd feed.new (S.left source.new) }
     ensures failed { result ≡ Err HttpError.ReadFault → Rose (S.faults source.old) (S.faults source.new) }
@@ -94,7 +96,8 @@ fn read_rest<S: Source>(
 // The length of the body, by a head of at most 64 fields.
 fn size_by_head(head: &[u8], fields: &[HeaderSpan], spans: RequestSpans) -> BodySize
     requires { IsParsed head.now fields.now spans }
-    ensures { (h : RequestHead) → IsRequestAt head.now fields.now spans h → result ≡ body_size h }
+    ensures size { (h : RequestHead) → IsRequestAt head.now fields.now spans h → result ≡ body_size h }
+    ensures limit { IsWithinLimit result }
 {
     read_size(head, spans.method.of(head), &fields[..spans.headers])
 }
