@@ -6,6 +6,7 @@ pub mod Inventory
 pub mod InventoryFields
 pub mod Default
 pub mod Reading
+pub mod ReadingLines
 pub use Rattle.pm_dn.specs.Tree
 pub use Rattle.pm_dn.specs.Containment
 pub use Rattle.pm_meas.specs.Def
