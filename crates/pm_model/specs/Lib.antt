@@ -1,8 +1,9 @@
+pub mod Inventory
 pub mod Slot
+pub mod WholeLines
 pub mod EventLine
 pub mod Event
 pub mod Crossing
-pub mod Inventory
 pub mod InventoryFields
 pub mod Default
 pub mod Reading
