@@ -3,4 +3,5 @@ pub mod EventLemmas
 pub mod SlotLemmas
 pub mod ListingLemmas
 pub mod DefaultLemmas
+pub mod WholeLinesLemmas
 pub mod ReadingLemmas

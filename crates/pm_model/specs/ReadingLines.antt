@@ -3,6 +3,7 @@ use Rattle.std.specs.Prelude.{◌≡◌, ◌≢◌, ◌⊎◌, ◌+◌, ◌<◌,
 use Rattle.pm_base.specs.Line.{lines_of}
 use Rattle.pm_base.specs.declared.code.Code.{Code}
 use Rattle.pm_base.specs.declared.code.Code.TheVariants.{I1, I2, M5, N10}
+use Rattle.pm_model.specs.WholeLines.{TakesLines}
 use Rattle.pm_model.specs.Inventory.{InventoryState, HasRoot, HasSlots, end_line}
 use Rattle.pm_model.specs.Default.{IsDefault}
 use Rattle.pm_model.specs.Reading.{AddsLine, RefusesLine}
@@ -52,59 +53,56 @@ RefusesNext many state line code =
     ⊎ (((0 < many) × (line ≡ end_line) × RefusesEnd state code)
     ⊎ ((length line ≤ 2048) × (line ≢ end_line) × RefusesLine state line (stop.Refused code)))
 
--- The first of these lines, as many as that, are good and made this state, and the others are left.
-pub record IsReadSoFar (lines left : List (List ℕ)) (state : InventoryState) (many : ℕ) : Type 0 where
+-- The first lines of the bytes before, as many as that, are good and made this state, and the bytes after are left.
+pub record IsReadSoFar (before after : List ℕ) (state : InventoryState) (many : ℕ) : Type 0 where
   pub good : List (List ℕ)
-  pub split : lines ≡ good ++ left
+  pub taken : TakesLines before good after
   pub adds : AddsLines empty_inventory good state
   pub counted : many ≡ length good
 
 -- The line of this number, from 1, is the first that is refused.
 pub record IsRefusedAt (lines : List (List ℕ)) (number : ℕ) (code : Code) : Type 0 where
+  pub good : List (List ℕ)
   pub state : InventoryState
-  pub many : ℕ
   pub line : List ℕ
   pub behind : List (List ℕ)
-  pub good : IsReadSoFar lines (line ∷ behind) state many
-  pub refused : RefusesNext many state line code
-  pub numbered : number ≡ many + 1
+  pub split : lines ≡ good ++ line ∷ behind
+  pub adds : AddsLines empty_inventory good state
+  pub refused : RefusesNext (length good) state line code
+  pub numbered : number ≡ length good + 1
 
 -- All lines are good, and the next one is missing.
 pub record LacksEnd (lines : List (List ℕ)) (number : ℕ) (code : Code) : Type 0 where
   pub state : InventoryState
-  pub many : ℕ
-  pub good : IsReadSoFar lines [] state many
+  pub adds : AddsLines empty_inventory lines state
   pub code_is : code ≡ I2
-  pub numbered : number ≡ many + 1
+  pub numbered : number ≡ length lines + 1
 
 -- The lines make no inventory: the line of this number is refused by this code, or missing.
 abbrev pub IsInventoryRefusal : List (List ℕ) → ℕ → Code → Type 0
 IsInventoryRefusal lines number code = IsRefusedAt lines number code ⊎ LacksEnd lines number code
 
--- These are the first of the lines, up to an `end`, and the inventory is theirs.
-pub record IsRead (lines left : List (List ℕ)) (inventory : InventoryState) (many : ℕ) : Type 0 where
+-- The first lines of the bytes before, up to an `end`, are those of the inventory, and the bytes after are left.
+pub record IsRead (before after : List ℕ) (inventory : InventoryState) (many : ℕ) : Type 0 where
   pub read : List (List ℕ)
-  pub split : lines ≡ read ++ left
+  pub taken : TakesLines before read after
   pub inventory_of : IsInventoryOf read inventory
   pub counted : many ≡ length read
 
--- Some lines are good, none of them an `end`, and the others are left.
-pub record IsCutOff (lines left : List (List ℕ)) : Type 0 where
+-- The first lines of the bytes before are good, none of them an `end`, and the bytes after are left.
+pub record IsCutOff (before after : List ℕ) : Type 0 where
+  pub good : List (List ℕ)
   pub state : InventoryState
-  pub many : ℕ
-  pub good : IsReadSoFar lines left state many
+  pub taken : TakesLines before good after
+  pub adds : AddsLines empty_inventory good state
 
--- Of these lines, an inventory takes the first up to its `end`, or is refused.
-abbrev pub ReadsLines : List (List ℕ) → List (List ℕ) → Result ReadInventory InventoryError → Type 0
-ReadsLines lines left (Ok r) = IsRead lines left r.inventory r.lines
-ReadsLines lines left (Err (error.Refused number code)) = IsInventoryRefusal lines number code
-ReadsLines lines left (Err error.Failed) = IsCutOff lines left
-ReadsLines lines left (Err error.Limit) = IsCutOff lines left
-ReadsLines lines left (Err error.Memory) = Unit {0}
-
--- The same, of the lines of the bytes that are left before and behind it.
+-- Of the bytes that are left, an inventory takes the lines up to its `end`, or is refused.
 abbrev pub ReadsInventory : List ℕ → List ℕ → Result ReadInventory InventoryError → Type 0
-ReadsInventory before after result = ReadsLines (lines_of before) (lines_of after) result
+ReadsInventory before after (Ok r) = IsRead before after r.inventory r.lines
+ReadsInventory before after (Err (error.Refused number code)) = IsInventoryRefusal (lines_of before) number code
+ReadsInventory before after (Err error.Failed) = IsCutOff before after
+ReadsInventory before after (Err error.Limit) = IsCutOff before after
+ReadsInventory before after (Err error.Memory) = Unit {0}
 
 -- What an `end` makes of this state, at the line of this number.
 abbrev pub EndsAt : InventoryState → ℕ → Result ReadInventory InventoryError → Type 0
