@@ -5,3 +5,5 @@ pub mod ListingLemmas
 pub mod DefaultLemmas
 pub mod WholeLinesLemmas
 pub mod ReadingLemmas
+pub mod SlotTableLemmas
+pub mod DistinctLemmas

@@ -1,5 +1,7 @@
 pub mod Inventory
 pub mod Slot
+pub mod SlotNames
+pub mod SlotTableFields
 pub mod WholeLines
 pub mod EventLine
 pub mod Event

@@ -1,0 +1,20 @@
+use Rattle.std.proofs.Common.{◌≡◌, ◌<◌, ℕ, List, length, Option, Some, None, sym, arith}
+use Rattle.std.specs.Prelude.{IfSome}
+use Rattle.std.specs.Str.{bytes_eq}
+use Rattle.pm_model.specs.Slot.{Slot}
+use Rattle.pm_model.specs.SlotNames.{slot_names, names_place}
+use Rattle.pm_model.proofs.SlotLemmas.{position-within}
+use Rattle.pm_model.proofs.slot_table.SlotTable.find.Goals as goal
+
+within : (slots : List Slot) (names : List ℕ) (slot : ℕ) → names_place slots names ≡ Some slot → slot < length slots
+within slots names slot place = omega (arith, position-within (λ (s : Slot). bytes_eq (slot_names s) names) 0 slot slots place)
+
+if_within : (slots : List Slot) (names : List ℕ) (answer : Option ℕ) → answer ≡ names_place slots names → IfSome answer (λ slot. slot < length slots)
+if_within slots names None is = tt
+if_within slots names (Some slot) is = within slots names slot (sym is)
+
+pub returns-in-Some-clause-within : goal.returns-in-Some-clause-within
+returns-in-Some-clause-within c = within c.args.self.now c.args.names.now c.in-Some.slot c.in-Some.ensures
+
+pub returns-in-None-clause-within : goal.returns-in-None-clause-within
+returns-in-None-clause-within c = if_within c.args.self.now c.args.names.now c.search.result c.search.ensures
