@@ -3,3 +3,4 @@ pub mod EventLemmas
 pub mod SlotLemmas
 pub mod ListingLemmas
 pub mod DefaultLemmas
+pub mod ReadingLemmas

@@ -7,6 +7,7 @@ pub mod Crossing
 pub mod InventoryFields
 pub mod Default
 pub mod Reading
+pub mod ReadingLines
 pub use Rattle.pm_dn.specs.Tree
 pub use Rattle.pm_dn.specs.Containment
 pub use Rattle.pm_meas.specs.Def

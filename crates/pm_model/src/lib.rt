@@ -7,11 +7,13 @@ mod event_line;
 mod inventory;
 mod line;
 mod listing;
+mod reading;
 
 pub use event::Event;
 pub use event_line::{EventLine, read_event_line};
 pub use inventory::{InvError, Inventory, SLOTS};
 pub use line::{Stop, take_line};
+pub use reading::{InventoryError, ReadInventory, read_inventory};
 
 #[cfg(test)]
 mod tests;
