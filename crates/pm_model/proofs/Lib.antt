@@ -3,3 +3,7 @@ pub mod EventLemmas
 pub mod SlotLemmas
 pub mod ListingLemmas
 pub mod DefaultLemmas
+pub mod WholeLinesLemmas
+pub mod ReadingLemmas
+pub mod SlotTableLemmas
+pub mod DistinctLemmas

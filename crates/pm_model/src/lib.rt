@@ -7,11 +7,17 @@ mod event_line;
 mod inventory;
 mod line;
 mod listing;
+mod reading;
+mod slot_entry;
+mod slot_places;
+mod slot_table;
 
 pub use event::Event;
 pub use event_line::{EventLine, read_event_line};
 pub use inventory::{InvError, Inventory, SLOTS};
 pub use line::{Stop, take_line};
+pub use reading::{InventoryError, ReadInventory, read_inventory};
+pub use slot_table::SlotTable;
 
 #[cfg(test)]
 mod tests;

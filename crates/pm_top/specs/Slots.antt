@@ -9,6 +9,7 @@ the_slot = record {
   object = codes "ManagedElement=ME1,GNBCUCPFunction=1,NRCellCU=7";
   metric = codes "RRC.ConnEstabAtt.mo-Data";
   reduce = Sum;
+  every = 1;
 }
 
 abbrev pub the_slots : List Slot
