@@ -1,9 +1,11 @@
 -- No two slots of an inventory have the same names, and there are as many as it has slots.
-use Rattle.std.proofs.Common.{◌≡◌, ◌≢◌, ◌+◌, ◌<◌, ℕ, zero, suc, Bool, true, false, List, [], ◌∷◌, ◌++◌, length, drop, map, get_or, None, inl, inr, refl, sym, ◌∙◌, ap, subst, arith, eqb}
-use Rattle.std.specs.List.{AllPairs, All, flat_map, filter, enumerate_from}
+use Rattle.std.proofs.Common.{◌≡◌, ◌≢◌, ◌+◌, ◌<◌, ℕ, zero, suc, Bool, true, false, cond, List, [], ◌∷◌, ◌++◌, length, drop, map, get_or, ◌&&◌, Option, Some, None, inl, inr, refl, sym, ◌∙◌, ap, subst, arith, eqb, eq-eqb}
+use Rattle.std.specs.List.{AllPairs, All, flat_map, filter, enumerate_from, position_from}
+use Rattle.std.specs.Str.{bytes_eq}
 use Rattle.std.specs.Char.{is_ascii_alphanumeric}
-use Rattle.std.proofs.lemmas.Bool.{cases_lt}
+use Rattle.std.proofs.lemmas.Bool.{cases_lt, false_from_ne_true}
 use Rattle.std.proofs.lemmas.Bool.Decides.{nat_tests}
+use Rattle.std.proofs.lemmas.Slice.Eq.{bytes_eq-Decides}
 use Rattle.std.proofs.lemmas.List.{length-map, length-append, map-append, get_or-map, get_or_past, append_cancel_right}
 use Rattle.std.proofs.lemmas.List.Elements.{All-cons, All-head, All-tail, All-nil, All-append, All-weaker, All-map}
 use Rattle.std.proofs.lemmas.List.FromFn.{length-enumerate_from}
@@ -19,31 +21,30 @@ use Rattle.pm_dn.proofs.TreeLemmas.{StandsAt-alone, IsTree-let_in}
 use Rattle.pm_meas.specs.declared.def.Def.{Def}
 use Rattle.pm_meas.specs.Catalogue.{names_of}
 use Rattle.pm_model.specs.Inventory.{slots_of, slots_of_metric, key_of}
-use Rattle.pm_model.specs.Slot.{Slot, slot_of, slots_of_def}
-use Rattle.pm_model.specs.SlotNames.{slot_names, AreDistinct}
+use Rattle.pm_model.specs.Slot.{Slot, slot_place, slot_of, slots_of_def}
+use Rattle.pm_model.specs.SlotNames.{slot_names, names_place, HasNoSpace, AreDistinct, AreSpaceless}
 
--- no byte of the text is a space
-abbrev pub HasNoSpace : List ℕ → Type 0
-HasNoSpace text = All (λ b. eqb b 32 ≡ false) text
+differs : (b c : ℕ) → eqb b c ≡ false → b ≢ c
+differs b c fails same = let meets : eqb b c ≡ true = eq-eqb b c same in cc
 
-class-lacks-space : (b : ℕ) → is_ascii_alphanumeric b ≡ true → eqb b 32 ≡ false
-class-lacks-space b is = grind (arith, nat_tests)
+class-fails : (b : ℕ) → is_ascii_alphanumeric b ≡ true → eqb b 32 ≡ false
+class-fails b is = grind (arith, nat_tests)
 
-id-lacks-space : (b : ℕ) → is_name_char b ≡ true → eqb b 32 ≡ false
-id-lacks-space b is = grind (arith, nat_tests)
+id-fails : (b : ℕ) → is_name_char b ≡ true → eqb b 32 ≡ false
+id-fails b is = grind (arith, nat_tests)
 
 part_text-lacks-space : (part : Part) → IsPart part → HasNoSpace (part_text part)
 part_text-lacks-space part is =
-    All-append (λ b. eqb b 32 ≡ false) part.class (61 ∷ part.id)
-    (All-weaker (λ b. is_ascii_alphanumeric b ≡ true) (λ b. eqb b 32 ≡ false) class-lacks-space part.class is.class_is.alphabet)
-    (All-cons (λ b. eqb b 32 ≡ false) 61 part.id refl (All-weaker (λ b. is_name_char b ≡ true) (λ b. eqb b 32 ≡ false) id-lacks-space part.id is.id_is.alphabet))
+    All-append (λ b. b ≢ 32) part.class (61 ∷ part.id)
+    (All-weaker (λ b. is_ascii_alphanumeric b ≡ true) (λ b. b ≢ 32) (λ b passes. differs b 32 (class-fails b passes)) part.class is.class_is.alphabet)
+    (All-cons (λ b. b ≢ 32) 61 part.id (λ same. omega (arith, same)) (All-weaker (λ b. is_name_char b ≡ true) (λ b. b ≢ 32) (λ b passes. differs b 32 (id-fails b passes)) part.id is.id_is.alphabet))
 
 name_text-lacks-space : (name : List Part) → All IsPart name → HasNoSpace (name_text name)
-name_text-lacks-space [] parts = All-nil (λ b. eqb b 32 ≡ false)
+name_text-lacks-space [] parts = All-nil (λ b. b ≢ 32)
 name_text-lacks-space (p ∷ []) parts = part_text-lacks-space p (All-head IsPart p [] parts)
 name_text-lacks-space (p ∷ q ∷ name) parts =
-    All-append (λ b. eqb b 32 ≡ false) (part_text p) (44 ∷ name_text (q ∷ name)) (part_text-lacks-space p (All-head IsPart p (q ∷ name) parts))
-    (All-cons (λ b. eqb b 32 ≡ false) 44 (name_text (q ∷ name)) refl (name_text-lacks-space (q ∷ name) (All-tail IsPart p (q ∷ name) parts)))
+    All-append (λ b. b ≢ 32) (part_text p) (44 ∷ name_text (q ∷ name)) (part_text-lacks-space p (All-head IsPart p (q ∷ name) parts))
+    (All-cons (λ b. b ≢ 32) 44 (name_text (q ∷ name)) (λ same. omega (arith, same)) (name_text-lacks-space (q ∷ name) (All-tail IsPart p (q ∷ name) parts)))
 
 -- the name of an object has no space
 pub name-lacks-space : (text : List ℕ) → name_refusal text ≡ None → HasNoSpace text
@@ -52,21 +53,17 @@ name-lacks-space text none = let is = IsNameOf-name_of text none in subst HasNoS
 pub object-lacks-space : (tree : List (List ℕ)) (object : ℕ) → IsTree tree → HasNoSpace (get_or tree object [])
 object-lacks-space tree object is = elim (cases_lt object (length tree)) [
   | inl lt ↦ name-lacks-space (get_or tree object []) (IsTree-let_in tree object is lt).named
-  | inr past ↦ subst HasNoSpace (sym (get_or_past tree object [] (omega (arith, past)))) (All-nil (λ b. eqb b 32 ≡ false))
+  | inr past ↦ subst HasNoSpace (sym (get_or_past tree object [] (omega (arith, past)))) (All-nil (λ b. b ≢ 32))
 ]
 
 -- texts without a space are told apart from what stands behind one
 pub names-apart : (object other metric second : List ℕ) → HasNoSpace object → HasNoSpace other → object ++ 32 ∷ metric ≡ other ++ 32 ∷ second → (object ≡ other) × (metric ≡ second)
 names-apart [] [] metric second lacks lacks' same = (refl, ap (drop 1) same)
-names-apart [] (b ∷ other) metric second lacks lacks' same =
-    let is : 32 ≡ b = ap (λ (l : List ℕ). get_or l 0 0) same in
-    let not' : eqb b 32 ≡ false = All-head (λ x. eqb x 32 ≡ false) b other lacks' in absurd (grind (arith, nat_tests))
-names-apart (a ∷ object) [] metric second lacks lacks' same =
-    let is : a ≡ 32 = ap (λ (l : List ℕ). get_or l 0 0) same in
-    let not' : eqb a 32 ≡ false = All-head (λ x. eqb x 32 ≡ false) a object lacks in absurd (grind (arith, nat_tests))
+names-apart [] (b ∷ other) metric second lacks lacks' same = absurd (All-head (λ x. x ≢ 32) b other lacks' (sym (ap (λ (l : List ℕ). get_or l 0 0) same)))
+names-apart (a ∷ object) [] metric second lacks lacks' same = absurd (All-head (λ x. x ≢ 32) a object lacks (ap (λ (l : List ℕ). get_or l 0 0) same))
 names-apart (a ∷ object) (b ∷ other) metric second lacks lacks' same =
     let is : a ≡ b = ap (λ (l : List ℕ). get_or l 0 0) same in
-    let rest = names-apart object other metric second (All-tail (λ x. eqb x 32 ≡ false) a object lacks) (All-tail (λ x. eqb x 32 ≡ false) b other lacks') (ap (drop 1) same) in
+    let rest = names-apart object other metric second (All-tail (λ x. x ≢ 32) a object lacks) (All-tail (λ x. x ≢ 32) b other lacks') (ap (drop 1) same) in
     (ap (λ (x : ℕ). x ∷ object) is ∙ ap (λ (l : List ℕ). b ∷ l) rest.0, rest.1)
 
 AllPairs-map : {X Y : Type 0} (R : Y → Y → Type 0) (f : X → Y) (xs : List X) → AllPairs (λ a b. R (f a) (f b)) xs → AllPairs R (map f xs)
@@ -163,3 +160,35 @@ many-from tree n (def ∷ defs) =
 -- There are as many as the inventory has slots.
 pub length-slots : (tree : List (List ℕ)) (defs : List Def) → length (flat_map (slots_of_def tree) defs) ≡ length (slots_of tree defs)
 length-slots tree defs = many-from tree 0 defs
+
+-- No name of a slot's object has a space.
+pub slots-spaceless : (tree : List (List ℕ)) (defs : List Def) → IsTree tree → AreSpaceless (flat_map (slots_of_def tree) defs)
+slots-spaceless tree [] is = All-nil (λ s. HasNoSpace s.object)
+slots-spaceless tree (def ∷ defs) is =
+    All-append (λ s. HasNoSpace s.object) (slots_of_def tree def) (flat_map (slots_of_def tree) defs)
+    (All-map (λ s. HasNoSpace s.object) (slot_of tree def) (objects_of tree def.class) (λ k d lt. object-lacks-space tree (get_or (objects_of tree def.class) k d) is))
+    (slots-spaceless tree defs is)
+
+position_from-same : {A : Type 0} (t u : A → Bool) (j : ℕ) (xs : List A) → All (λ x. t x ≡ u x) xs → position_from t j xs ≡ position_from u j xs
+position_from-same t u j [] same = refl
+position_from-same t u j (x ∷ xs) same =
+    ap (λ (b : Bool). cond b (Some j) (position_from t (j + 1) xs)) (All-head (λ y. t y ≡ u y) x xs same)
+    ∙ ap (λ (r : Option ℕ). cond (u x) (Some j) r) (position_from-same t u (j + 1) xs (All-tail (λ y. t y ≡ u y) x xs same))
+
+both : (a b c : Bool) → (a ≡ true → b ≡ true → c ≡ true) → (c ≡ true → (a ≡ true) × (b ≡ true)) → (a && b) ≡ c
+both true true c into back = sym (into refl refl)
+both true false c into back = sym (false_from_ne_true c (λ is. let never = (back is).1 in cc))
+both false b c into back = sym (false_from_ne_true c (λ is. let never = (back is).0 in cc))
+
+-- The names of an object and a metric are found apart as they are together.
+pub slot_place-names : (slots : List Slot) (object metric : List ℕ) → AreSpaceless slots → HasNoSpace object → slot_place slots object metric ≡ names_place slots (object ++ 32 ∷ metric)
+slot_place-names slots object metric spaceless lacks =
+    position_from-same (λ slot. bytes_eq slot.object object && bytes_eq slot.metric metric) (λ slot. bytes_eq (slot_names slot) (object ++ 32 ∷ metric)) 0 slots
+    (λ k d lt.
+    let s = get_or slots k d in
+    both (bytes_eq s.object object) (bytes_eq s.metric metric) (bytes_eq (slot_names s) (object ++ 32 ∷ metric))
+    (λ one two. (bytes_eq-Decides (slot_names s) (object ++ 32 ∷ metric)).1
+    (ap (λ (l : List ℕ). l ++ 32 ∷ s.metric) ((bytes_eq-Decides s.object object).0 one) ∙ ap (λ (l : List ℕ). object ++ 32 ∷ l) ((bytes_eq-Decides s.metric metric).0 two)))
+    (λ whole.
+    let apart = names-apart s.object object s.metric metric (spaceless k d lt) lacks ((bytes_eq-Decides (slot_names s) (object ++ 32 ∷ metric)).0 whole) in
+    ((bytes_eq-Decides s.object object).1 apart.0, (bytes_eq-Decides s.metric metric).1 apart.1)))

@@ -1,23 +1,22 @@
 -- The place of a slot by its names, and the entries of the slots of an inventory.
-use Rattle.std.proofs.Common.{◌≡◌, ◌≢◌, ◌+◌, ◌<◌, ◌≤◌, ℕ, zero, suc, Bool, true, false, cond, List, [], ◌∷◌, ◌++◌, length, take, drop, map, get_or, Option, Some, None, refl, sym, ◌∙◌, ap, subst, arith, append_assoc}
-use Rattle.std.specs.List.{AllPairs, All, flat_map, position_from, slice_get}
+use Rattle.std.proofs.Common.{◌≡◌, ◌≢◌, ◌+◌, ◌<◌, ℕ, zero, suc, Bool, true, false, cond, List, [], ◌∷◌, ◌++◌, length, take, drop, map, get_or, Option, Some, refl, sym, ◌∙◌, ap, subst, arith, append_assoc}
+use Rattle.std.specs.List.{AllPairs, flat_map, position_from, slice_get}
 use Rattle.std.specs.Str.{bytes_eq}
 use Rattle.std.proofs.lemmas.Bool.{false_from_ne_true}
 use Rattle.std.proofs.lemmas.Option.{get_or_from_slice_get, slice_get_within}
 use Rattle.std.proofs.lemmas.Grind.{flat_map-append}
-use Rattle.std.proofs.lemmas.List.{length-map, length-append, map-append, append-nil, get_or-map, take_more}
+use Rattle.std.proofs.lemmas.List.{length-map, map-append, append-nil, get_or-map, take_more}
 use Rattle.std.proofs.lemmas.Slice.Eq.{bytes_eq-Decides}
-use Rattle.std.proofs.Math.Seq.{take-append_seam, take-length}
-use Rattle.pm_base.specs.declared.Class.{Class}
+use Rattle.std.proofs.Math.Seq.{take-append_seam}
 use Rattle.pm_dn.specs.Containment.{has_path_to}
 use Rattle.pm_dn.specs.Tree.{objects_of}
 use Rattle.pm_dn.proofs.NumberLemmas.{numbers_where_yes, numbers_where_no}
 use Rattle.pm_meas.specs.declared.def.Def.{Def}
 use Rattle.pm_meas.specs.declared.kind.Reduce.{Reduce}
 use Rattle.pm_model.specs.Slot.{Slot, every_of, slot_of, slots_of_def}
-use Rattle.pm_model.specs.SlotNames.{slot_names, names_place, AreDistinct}
+use Rattle.pm_model.specs.SlotNames.{slot_names, names_place, AreDistinct, AreSpaceless}
 use Rattle.pm_model.specs.SlotTableFields.{slot_of_entry, Lists, IsTable}
-use Rattle.pm_model.specs.declared.slot_table.Entry.{Entry}
+use Rattle.pm_model.specs.declared.slot_entry.Entry.{Entry}
 
 -- an element passes, and none before it
 first-place : {K : Type 0} (t : K → Bool) (j i : ℕ) (xs : List K) (d : K) → i < length xs → t (get_or xs i d) ≡ true → ((k : ℕ) → k < i → t (get_or xs k d) ≡ false) → position_from t j xs ≡ Some (j + i)
@@ -113,18 +112,18 @@ drop-seam : (xs : List ℕ) (y : ℕ) (ys : List ℕ) → drop (length xs + 1) (
 drop-seam [] y ys = refl
 drop-seam (x ∷ xs) y ys = let next : length (x ∷ xs) + 1 ≡ suc (length xs + 1) = omega arith in ap (λ (n : ℕ). drop n (x ∷ (xs ++ y ∷ ys))) next ∙ drop-seam xs y ys
 
-abbrev made : List ℕ → List ℕ → Reduce → ℕ → Slot
+abbrev pub made : List ℕ → List ℕ → Reduce → ℕ → Slot
 made object metric reduce every = record { object = object; metric = metric; reduce = reduce; every = every }
 
--- The slot of an entry with joined names.
-pub slot_of_entry-joined : (e : Entry) (s : Slot) → e.names ≡ slot_names s → e.object ≡ length s.object → e.reduce ≡ s.reduce → e.every ≡ s.every → slot_of_entry e ≡ s
-slot_of_entry-joined e s names object reduce every =
-    let front : take e.object e.names ≡ s.object = ap (λ (n : ℕ). take n e.names) object ∙ ap (λ (l : List ℕ). take (length s.object) l) names ∙ take-append_seam s.object (32 ∷ s.metric) in
-    let back : drop (e.object + 1) e.names ≡ s.metric = ap (λ (n : ℕ). drop (n + 1) e.names) object ∙ ap (λ (l : List ℕ). drop (length s.object + 1) l) names ∙ drop-seam s.object 32 s.metric in
-    ap (λ (o : List ℕ). made o (drop (e.object + 1) e.names) e.reduce e.every) front
-    ∙ ap (λ (m : List ℕ). made s.object m e.reduce e.every) back
-    ∙ ap (λ (r : Reduce). made s.object s.metric r e.every) reduce
-    ∙ ap (λ (n : ℕ). made s.object s.metric s.reduce n) every
+-- The slot of joined names.
+pub slot-joined : (names : List ℕ) (object : ℕ) (reduce : Reduce) (every : ℕ) (s : Slot) → names ≡ slot_names s → object ≡ length s.object → reduce ≡ s.reduce → every ≡ s.every → made (take object names) (drop (object + 1) names) reduce every ≡ s
+slot-joined names object reduce every s is at by each =
+    let front : take object names ≡ s.object = ap (λ (n : ℕ). take n names) at ∙ ap (λ (l : List ℕ). take (length s.object) l) is ∙ take-append_seam s.object (32 ∷ s.metric) in
+    let back : drop (object + 1) names ≡ s.metric = ap (λ (n : ℕ). drop (n + 1) names) at ∙ ap (λ (l : List ℕ). drop (length s.object + 1) l) is ∙ drop-seam s.object 32 s.metric in
+    ap (λ (o : List ℕ). made o (drop (object + 1) names) reduce every) front
+    ∙ ap (λ (m : List ℕ). made s.object m reduce every) back
+    ∙ ap (λ (r : Reduce). made s.object s.metric r every) by
+    ∙ ap (λ (n : ℕ). made s.object s.metric s.reduce n) each
 
 -- One more entry.
 listed-more : (entries : List Entry) (slots : List Slot) (e : Entry) (s : Slot) → Lists entries slots → slot_of_entry e ≡ s → e.names ≡ slot_names s → Lists (entries ++ e ∷ []) (slots ++ s ∷ [])
@@ -153,14 +152,6 @@ object-passed tree def i entries slots lt fails lists =
     let same : objects ≡ objects_of (take (i + 1) tree) def.class = numbers_where_no (has_path_to def.class) tree i objects lt fails refl in
     rw (← same) lists
 
-pub objects-none : (tree : List (List ℕ)) (def : Def) (entries : List Entry) (slots : List Slot) → Lists entries slots → Lists entries (slots ++ slots_so_far tree def 0)
-objects-none tree def entries slots lists = rw (append-nil slots) lists
-
-pub objects-all : (tree : List (List ℕ)) (def : Def) (i : ℕ) (entries : List Entry) (slots : List Slot) → i ≡ length tree → Lists entries (slots ++ slots_so_far tree def i) → Lists entries (slots ++ slots_of_def tree def)
-objects-all tree def i entries slots end lists =
-    let whole : take i tree ≡ tree = ap (λ (n : ℕ). take n tree) end ∙ take-length tree in
-    rw (whole) at lists
-
 -- One more metric.
 pub metric-listed : (tree : List (List ℕ)) (defs : List Def) (def : Def) (i : ℕ) (entries : List Entry) → slice_get defs i ≡ Some def → Lists entries (flat_map (slots_of_def tree) (take i defs) ++ slots_of_def tree def) → Lists entries (flat_map (slots_of_def tree) (take (i + 1) defs))
 metric-listed tree defs def i entries is lists =
@@ -169,9 +160,10 @@ metric-listed tree defs def i entries is lists =
     rw (more, flat_map-append (slots_of_def tree) (take i defs) (def ∷ []), append-nil (slots_of_def tree def)) lists
 
 -- The entries of an inventory's slots are those of a table.
-pub table-of : (entries : List Entry) (slots : List Slot) → Lists entries slots → AreDistinct slots → length slots < 4097 → IsTable entries
-table-of entries slots lists distinct few = record {
+pub table-of : (entries : List Entry) (slots : List Slot) → Lists entries slots → AreDistinct slots → AreSpaceless slots → length slots < 4097 → IsTable entries
+table-of entries slots lists distinct spaceless few = record {
   few = omega (arith, few, ap length lists.slots_are, length-map entries slot_of_entry);
   named = lists.names_are ∙ ap (map slot_names) (sym lists.slots_are);
   distinct = subst AreDistinct (sym lists.slots_are) distinct;
+  spaceless = subst AreSpaceless (sym lists.slots_are) spaceless;
 }

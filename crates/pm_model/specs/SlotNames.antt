@@ -1,5 +1,5 @@
 -- The names of a slot as one text, which lines of events and of a tally have in their middle (this project's own).
-use Rattle.std.specs.Prelude.{◌≢◌, ◌++◌, ℕ, List, ◌∷◌, map, Option, AllPairs}
+use Rattle.std.specs.Prelude.{◌≢◌, ◌++◌, ℕ, List, ◌∷◌, map, Option, All, AllPairs}
 use Rattle.std.specs.List.{position_from}
 use Rattle.std.specs.Str.{bytes_eq}
 use Rattle.pm_model.specs.Slot.{Slot}
@@ -15,3 +15,11 @@ names_place slots names = position_from (λ slot. bytes_eq (slot_names slot) nam
 -- No two slots have the same names.
 abbrev pub AreDistinct : List Slot → Type 0
 AreDistinct slots = AllPairs (λ a b. a ≢ b) (map slot_names slots)
+
+-- No byte of the text is a space.
+abbrev pub HasNoSpace : List ℕ → Type 0
+HasNoSpace text = All (λ b. b ≢ 32) text
+
+-- No object's name has a space.
+abbrev pub AreSpaceless : List Slot → Type 0
+AreSpaceless slots = All (λ slot. HasNoSpace slot.object) slots

@@ -1,8 +1,8 @@
 -- What the fields of a table of slots mean.
 use Rattle.std.specs.Prelude.{◌≡◌, ◌+◌, ◌≤◌, List, length, map, take, drop}
 use Rattle.pm_model.specs.Slot.{Slot}
-use Rattle.pm_model.specs.SlotNames.{slot_names, AreDistinct}
-use Rattle.pm_model.specs.declared.slot_table.Entry.{Entry}
+use Rattle.pm_model.specs.SlotNames.{slot_names, AreDistinct, AreSpaceless}
+use Rattle.pm_model.specs.declared.slot_entry.Entry.{Entry}
 
 -- The slot of an entry.
 abbrev pub slot_of_entry : Entry → Slot
@@ -18,3 +18,4 @@ pub record IsTable (entries : List Entry) : Type 0 where
   pub few : length entries ≤ 4096
   pub named : map (λ (e : Entry). e.names) entries ≡ map slot_names (map slot_of_entry entries)
   pub distinct : AreDistinct (map slot_of_entry entries)
+  pub spaceless : AreSpaceless (map slot_of_entry entries)

@@ -8,6 +8,7 @@ mod inventory;
 mod line;
 mod listing;
 mod reading;
+mod slot_entry;
 mod slot_places;
 mod slot_table;
 

@@ -1,30 +1,18 @@
 //! The slots of an inventory, looked up by the names that lines of events have.
-ghost use Rattle.std.specs.Prelude.{◌≡◌, ◌<◌, ◌≤◌, ◌++◌, ◌∷◌, ◌↔◌, List, [], Some, length, IfOk, IfSome, OnOk, IsTrue, slice_get};
+ghost use Rattle.std.specs.Prelude.{◌≡◌, ◌<◌, ◌≤◌, ◌++◌, ◌∷◌, ◌↔◌, ℕ, List, [], Some, length, IfOk, IfSome, OnOk, IsTrue, slice_get};
 ghost use Rattle.pm_meas.specs.Def.{IsKind};
-ghost use Rattle.pm_model.specs.Slot.{Slot, every_of, slots_of_def, event_slots};
-ghost use Rattle.pm_model.specs.SlotNames.{slot_names, names_place, AreDistinct};
+ghost use Rattle.pm_model.specs.Slot.{Slot, slot_place, every_of, slots_of_def, event_slots};
+ghost use Rattle.pm_model.specs.SlotNames.{slot_names, names_place, HasNoSpace, AreDistinct, AreSpaceless};
 ghost use Rattle.pm_model.specs.SlotTableFields.{slot_of_entry, Lists, IsTable};
 
 use crate::inventory::{Inventory, has_class};
+use crate::slot_entry::Entry;
 use crate::slot_places::{PLACES, SlotPlaces, hash_of};
 use pm_base::Blob;
 use pm_dn::Tree;
 use pm_meas::{Def, Kind, Reduce};
 use std::alloc::{AllocError, Global};
 use std::marker::Model;
-
-/// A slot, as a table keeps it.
-#[derive(Debug, Drop)]
-pub struct Entry {
-    /// The names of the object and the metric, with a space between.
-    pub names: Blob,
-    /// How many bytes the object's name has.
-    pub object: usize,
-    /// The metric's reduction.
-    pub reduce: Reduce,
-    /// Of a DER every n-th event of a tick is registered: its n; 1 of another kind.
-    pub every: u16,
-}
 
 /// The slots of an inventory, each at the place that is its number. Contracts see it as their list.
 #[derive(Debug, Drop)]
@@ -75,6 +63,7 @@ impl SlotTable {
     #[inline(always)]
     pub fn find(&self, names: &[u8]) -> Option<u16>
         ensures place { result ≡ names_place self.now names.now }
+        ensures pair { (object metric : List ℕ) → HasNoSpace object → names.now ≡ object ++ 32 ∷ metric → result ≡ slot_place self.now object metric }
         ensures within { IfSome result (λ slot. slot < length self.now) }
     {
         match self.guess(names) {
@@ -86,7 +75,8 @@ impl SlotTable {
     // By the table of places, of whose content nothing is known.
     #[inline(always)]
     fn guess(&self, names: &[u8]) -> Option<u16>
-        ensures { IfSome result (λ slot. names_place self.now names.now ≡ Some slot) }
+        ensures answer { IfSome result (λ slot. names_place self.now names.now ≡ Some slot) }
+        ensures spaceless { AreSpaceless self.now }
     {
         let hash = hash_of(names);
         for step in 0..PLACES as u64 {
@@ -138,10 +128,11 @@ impl SlotTable {
         self.entries[slot as usize].reduce
     }
 
-    /// Of how many events of a tick a slot registers one, from 1 to 1,000.
+    /// Of how many events of a tick a slot registers one.
     pub fn every(&self, slot: u16) -> u16
         requires { slot < length self.now }
-        ensures { (s : Slot) → slice_get self.now slot ≡ Some s → result ≡ s.every }
+        ensures value { (s : Slot) → slice_get self.now slot ≡ Some s → result ≡ s.every }
+        ensures range { (1 ≤ result) × (result ≤ 1000) }
     {
         self.entries[slot as usize].every
     }
@@ -173,6 +164,7 @@ fn list_slots(
     requires { entries.old.items ≡ [] }
     ensures listed { OnOk result (Lists entries.new.items (event_slots inventory.now)) }
     ensures distinct { OnOk result (AreDistinct (event_slots inventory.now)) }
+    ensures spaceless { OnOk result (AreSpaceless (event_slots inventory.now)) }
 {
     let (tree, catalogue) = (inventory.tree(), inventory.catalogue());
     let objects = tree.len();
@@ -228,7 +220,8 @@ fn joined(alloc: Global, object: &[u8], metric: &[u8]) -> Result<Blob, AllocErro
 
 fn every(kind: Kind) -> u16
     requires { IsKind kind }
-    ensures { result ≡ every_of kind }
+    ensures value { result ≡ every_of kind }
+    ensures range { (1 ≤ result) × (result ≤ 1000) }
 {
     match kind {
         Kind::Der { n } => n as u16,

@@ -1,5 +1,5 @@
-use Rattle.std.proofs.Common.{◌<◌, ◌++◌, ◌∷◌, ◌≡◌, [], length, sym, ◌∙◌, ap, arith, Vec, Global}
-use Rattle.pm_model.specs.declared.slot_table.Entry.{Entry}
+use Rattle.std.proofs.Common.{◌<◌, length, sym, ◌∙◌, ap, arith, Vec, Global}
+use Rattle.pm_model.specs.declared.slot_entry.Entry.{Entry}
 use Rattle.pm_model.proofs.SlotTableLemmas.{object-listed, object-passed}
 use Rattle.pm_model.proofs.slot_table.list_metric.Goals as goal
 use Rattle.pm_model.proofs.slot_table.list_metric.Goals.{then-has_class+in_ok-entry_of+in_ok-push, else-has_class}

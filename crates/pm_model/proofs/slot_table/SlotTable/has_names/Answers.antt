@@ -1,4 +1,4 @@
-use Rattle.std.proofs.Common.{◌≡◌, ◌<◌, ℕ, List, Some, length, sym, ◌∙◌, ap, subst, arith}
+use Rattle.std.proofs.Common.{◌<◌, List, length, sym, ◌∙◌, ap, arith}
 use Rattle.pm_model.specs.Slot.{Slot}
 use Rattle.pm_model.specs.SlotNames.{names_place}
 use Rattle.pm_model.proofs.SlotTableLemmas.{entry-found, entry-names, place-within}

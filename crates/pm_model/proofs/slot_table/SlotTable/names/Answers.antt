@@ -1,4 +1,4 @@
-use Rattle.std.proofs.Common.{◌≡◌, List, Some, ◌∙◌, ap}
+use Rattle.std.proofs.Common.{List, ◌∙◌, ap}
 use Rattle.std.specs.List.{slice_get}
 use Rattle.pm_model.specs.Slot.{Slot}
 use Rattle.pm_model.proofs.SlotTableLemmas.{entry-slot_names}
