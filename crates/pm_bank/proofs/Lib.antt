@@ -20,3 +20,5 @@ pub mod Ends
 pub mod Looks
 pub mod Takes
 pub mod Empties
+pub mod RunLemmas
+pub mod LaidLemmas

@@ -16,7 +16,7 @@ use Rattle.pm_bank.proofs.FoldLemmas.{op-unit, op-comm, op-assoc, when-zero, up_
 use Rattle.pm_bank.proofs.EntryLemmas.{cell-in, get_elem-get_or}
 use Rattle.pm_bank.proofs.MergeLemmas.{alone}
 use Rattle.pm_bank.proofs.CountLemmas.{complete-set}
-use Rattle.pm_bank.proofs.TotalLemmas.{total_at, total_alone}
+use Rattle.pm_bank.proofs.TotalLemmas.{total_at, total_alone, total_le}
 use Rattle.pm_bank.proofs.TellLemmas.{tells_stay}
 use Rattle.pm_bank.proofs.StayLemmas.{gates_stay, cells_stay, merged_stays}
 use Rattle.pm_bank.proofs.KeeperLemmas.{part_none, same, keeper_seats, keeper_tells, keeper_still}
@@ -76,6 +76,8 @@ module _ (slots : ℕ) (words : List ℕ) (views : List View) (k : Kept slots wo
         quotas_less = omega (arith, b);
         older_less = omega (arith, c);
         room = omega (arith, b, d, r);
+        older_out = let le = total_le (aged k.phase.epoch) lives views (λ v. omega arith) in omega (arith, a, c, le);
+        small = (k.seats.fits id start here_is).small;
         up_to = up_to-none x.epoch es (λ e later. let o = (k.seats.fits id start here_is).past e (let z = knows_all.epoch_is in omega (arith, z, later)) in omega (arith, o));
         whole = is_whole;
       }

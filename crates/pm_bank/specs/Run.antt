@@ -5,8 +5,10 @@ use Rattle.pm_meas.specs.Cell.{cell_of}
 use Rattle.pm_bank.specs.declared.view.View.{View}
 use Rattle.pm_bank.specs.declared.view.Hit.{Hit}
 use Rattle.pm_bank.specs.declared.view.Part.{Part}
-use Rattle.pm_bank.specs.Words.{close, run_fold, laid}
-use Rattle.pm_bank.specs.Steps.{lays}
+use Rattle.pm_bank.specs.declared.view.Entry.{Entry}
+use Rattle.pm_bank.specs.Entries.{cell_in}
+use Rattle.pm_bank.specs.Words.{close, run_fold, laid, found_at, word_of}
+use Rattle.pm_bank.specs.Steps.{lays, cleared, keeping}
 
 -- the cell is the fold of the run's events of the slot
 pub record IsRunCell (s : ℕ) (hs : List Hit) (c : Cell) : Type 0 where
@@ -41,3 +43,19 @@ pub record IsLaidUpTo (n : ℕ) (hs : List Hit) (ps : List Part) (cells : List C
 -- how far a fold of n events has come: no cell has more events, nor a greater sum than they can have
 abbrev pub AreBounded : ℕ → List Cell → Type 0
 AreBounded n cells = (s : ℕ) → s < length cells → ((slice_index_or cells s (cell_of [])).n ≤ n) × ((slice_index_or cells s (cell_of [])).sum ≤ 1048575 * (slice_index_or cells s (cell_of [])).n)
+
+-- how far a fold has come: the first n events of a run are in the cells
+pub record IsFolding (n slots : ℕ) (hs : List Hit) (cells : List Cell) : Type 0 where
+  pub size : length cells ≡ slots
+  pub folds : AreRunCells (take n hs) cells
+  pub bounded : AreBounded n cells
+
+-- the four words of one slot were found
+abbrev pub clears_cell : ℕ → Cell → View → View
+clears_cell s c v = cleared 3 s c.min (cleared 2 s c.max (cleared 1 s c.sum (cleared 0 s c.n v)))
+
+-- the words of the first n slots were found, and are those of the cells; where no older pass is out, these are the folds of what was met
+pub record IsClearedUpTo (n ended : ℕ) (first now : View) (cells : List Cell) : Type 0 where
+  pub view_is : now ≡ keeping (record first.numbers { cleared = 4 * n }) first.entries now.told first.taken
+  pub found : (k s : ℕ) → k < 4 → s < n → word_of k (slice_index_or cells s (cell_of [])) ≡ found_at k s now.told
+  pub folds : first.numbers.older ≡ 0 → (s : ℕ) → s < n → slice_index_or cells s (cell_of []) ≡ cell_in ended s first.entries

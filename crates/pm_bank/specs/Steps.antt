@@ -1,5 +1,6 @@
 -- What each atomic step makes of the view of its seat, and what it tells.
-use Rattle.std.specs.Prelude.{◌≡◌, ℕ, suc, ◌+◌, ◌-◌, ◌*◌, ◌/◌, ◌%◌, ◌<◌, ◌≤◌, List, [], ◌∷◌, ◌++◌, length, true, false, All, sum_by}
+use Rattle.std.specs.Prelude.{Option, Some, None, ◌≡◌, ℕ, suc, ◌+◌, ◌-◌, ◌*◌, ◌/◌, ◌%◌, ◌<◌, ◌≤◌, List, [], ◌∷◌, ◌++◌, length, true, false, All, sum_by}
+use Rattle.atomic_table.specs.Table.{Me}
 use Rattle.pm_meas.specs.declared.cell.Cell.{Cell}
 use Rattle.pm_bank.specs.declared.view.View.{View}
 use Rattle.pm_bank.specs.declared.view.Numbers.{Numbers}
@@ -7,7 +8,7 @@ use Rattle.pm_bank.specs.declared.view.Hit.{Hit}
 use Rattle.pm_bank.specs.declared.view.Part.{Part}
 use Rattle.pm_bank.specs.declared.view.Entry.{Entry}
 use Rattle.pm_bank.specs.declared.view.Taken.{Taken}
-use Rattle.pm_bank.specs.Entries.{when, stamped, count_in, AreUpTo, IsFoldOf}
+use Rattle.pm_bank.specs.Entries.{when, stamped, count_in, AreSmall, AreUpTo, IsFoldOf}
 use Rattle.pm_bank.specs.Words.{exact, fold_of}
 use Rattle.pm_bank.specs.Rule.{aged}
 
@@ -103,7 +104,9 @@ pub record Settles (v w : View) : Type 0 where
   pub quotas_less : v.numbers.late_quota ≤ v.numbers.quotas
   pub older_less : v.numbers.late_older ≤ v.numbers.older
   pub room : v.numbers.met + v.numbers.quotas ≤ 1073741824 + v.numbers.late_quota
+  pub older_out : v.numbers.older + v.numbers.late ≤ v.numbers.out + v.numbers.late_older
   pub up_to : AreUpTo v.numbers.epoch v.entries
+  pub small : AreSmall v.entries
   pub whole : v.numbers.out ≡ v.numbers.late → IsWhole v
 
 -- no pass that was met is still counted
@@ -128,3 +131,42 @@ pub record IsTaking (v : View) (ended : ℕ) : Type 0 where
   pub last : suc ended ≡ v.numbers.epoch
   pub untaken : v.numbers.untaken ≡ 1
   pub sealed : v.numbers.sealed ≡ 1
+
+-- a pass between two calls: with no open visit, and so many events of its quota left
+pub record IsPass (me : Me (Unit {0}) View) (since quota left : ℕ) : Type 0 where
+  pub plain : me.1 ≡ []
+  pub is : me.0 ≡ passing since quota 0 0 [] me.0.entries
+  pub left_is : length me.0.entries + left ≡ quota
+
+-- a visit: one event arrived in an epoch
+pub record IsVisit (me : Me (Unit {0}) View) (since quota left epoch : ℕ) : Type 0 where
+  pub plain : me.1 ≡ []
+  pub is : me.0 ≡ passing since quota epoch 1 [] me.0.entries
+  pub left_is : suc (length me.0.entries) + left ≡ quota
+  pub hired : since ≤ epoch
+  pub counted : AreUpTo epoch me.0.entries
+
+-- the arrivals that are pending, in numbers
+abbrev pub IsPending : Option ℕ → Numbers → Type 0
+IsPending None x = x.untaken ≡ 0
+IsPending (Some n) x = (x.untaken ≡ 1) × (x.arrived ≡ n) × (0 < x.epoch)
+
+-- the keeper between two calls
+pub record IsKeeping (me : Me (Unit {0}) View) (workers epoch out quotas older met : ℕ) (pending : Option ℕ) : Type 0 where
+  pub plain : me.1 ≡ []
+  pub keeper_is : IsKeeper me.0
+  pub settled : IsSettled me.0.numbers
+  pub epoch_is : me.0.numbers.epoch ≡ epoch
+  pub out_is : me.0.numbers.out ≡ out
+  pub quotas_is : me.0.numbers.quotas ≡ quotas
+  pub older_is : me.0.numbers.older ≡ older
+  pub met_is : me.0.numbers.met ≡ met
+  pub pending_is : IsPending pending me.0.numbers
+  pub none_cleared : me.0.numbers.cleared ≡ 0
+  pub room : quotas + met ≤ 1073741824
+  pub few : out ≤ workers
+  pub workers_few : workers ≤ 64
+  pub older_few : older ≤ out
+  pub up_to : AreUpTo epoch me.0.entries
+  pub small : AreSmall me.0.entries
+  pub whole : out ≡ 0 → IsWhole me.0
