@@ -5,13 +5,10 @@ use mathlib.Core.Logic.{dite}
 use native.Mathlib.Decide.{ℕ_discrete}
 use Rattle.pm_bank.specs.declared.view.Hit.{Hit}
 use Rattle.pm_bank.specs.declared.view.Part.{Part}
-use Rattle.pm_bank.specs.declared.view.Entry.{Entry}
 use Rattle.pm_meas.specs.declared.cell.Cell.{Cell}
 use Rattle.pm_meas.specs.Cell.{cell_of}
-use Rattle.pm_bank.specs.Entries.{stamped}
 use Rattle.pm_bank.specs.Words.{run_fold, laid}
 use Rattle.pm_bank.specs.Run.{IsRunCell, IsLaidUpTo}
-use Rattle.pm_bank.proofs.FoldLemmas.{length-stamped}
 use Rattle.pm_bank.proofs.TotalLemmas.{length_set}
 use Rattle.pm_bank.proofs.RunLemmas.{four, four_other, fold_laid, fold_blank, none_of}
 
@@ -57,11 +54,3 @@ module _ (s : ℕ) (hs : List Hit) (ps : List Part) (cells : List Cell) (inside 
             (λ (apart : t ≢ s). so_far.blank t (below t s le apart));
         folds = λ t le lt. so_far.folds t (omega (arith, le)) lt;
       }
-
-pub length_append : {A : Type 0} (xs ys : List A) → length (xs ++ ys) ≡ length xs + length ys
-length_append [] ys = omega arith
-length_append (x ∷ xs) ys = let more = length_append xs ys in omega (arith, more)
-
--- what is left of a quota after a run
-pub still_left : (es fs : List Entry) (a : ℕ) (hs : List Hit) (left quota : ℕ) → fs ≡ es ++ stamped a hs → length es + left ≡ quota → length hs ≤ left → length fs + (left - length hs) ≡ quota
-still_left es fs a hs left quota is whole few = let l : length fs ≡ length es + length hs = ap length is ∙ length_append es (stamped a hs) ∙ ap (λ (n : ℕ). length es + n) (length-stamped a hs) in omega (arith, l, whole, few)

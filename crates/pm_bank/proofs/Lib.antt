@@ -22,3 +22,5 @@ pub mod Takes
 pub mod Empties
 pub mod RunLemmas
 pub mod LaidLemmas
+pub mod MeetLemmas
+pub mod PassedLemmas

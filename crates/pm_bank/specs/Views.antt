@@ -98,3 +98,7 @@ IsCounted (Some n) e es = n ≡ count_in (e - 1) es
 pub record AreFolds (k : KeeperView) : Type 0 where
   pub taken_are : All (IsFoldOf k.met) k.taken
   pub pending_is : IsCounted k.pending k.epoch k.met
+
+-- the keeper of a new bank
+abbrev pub new_keeper_view : TableId → ℕ → KeeperView
+new_keeper_view id workers = record { bank = id; workers = workers; epoch = 0; out = 0; quotas = 0; older = 0; granted = 0; met = []; pending = None; taken = []; looks = 0; seen = 0 }

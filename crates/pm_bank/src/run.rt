@@ -41,7 +41,7 @@ impl Scratch {
 }
 
 /// Folds a run into empty cells.
-pub(crate) fn fold_run(hits: &[Hit], cells: &mut [Cell])
+fn fold_run(hits: &[Hit], cells: &mut [Cell])
     requires blank { AreBlank cells.old }
     requires sound { AreSound (length cells.old) hits.now }
     requires few { length hits.now ≤ 4294967295 }
@@ -94,7 +94,7 @@ fn lay_cells<H: Hits>(table: &Counters, seat: &mut Seat<(), View>, epoch: u32, c
 }
 
 /// A run that is folded: its events arrive by one step, are laid slot by slot, and leave by one step.
-pub(crate) fn count_cells<H: Hits>(
+fn count_cells<H: Hits>(
     table: &Counters,
     seat: &mut Seat<(), View>,
     count: u32,
@@ -116,4 +116,27 @@ pub(crate) fn count_cells<H: Hits>(
     lay_cells::<H>(table, seat, epoch, cells);
     leave::<H>(table, seat, epoch, count);
     epoch
+}
+
+/// Folds a run of at least one event, and counts it.
+pub(crate) fn count_hits<H: Hits>(
+    table: &Counters,
+    seat: &mut Seat<(), View>,
+    hits: &[Hit],
+    cells: &mut [Cell],
+) -> u32
+    requires table { (seat.old.table_id ≡ table.now.shared.table_id) × (table.now.shared.table_id.words ≡ 8 + 8 * table.now.shared.key) }
+    requires size { (length cells.old ≡ table.now.shared.key) × (table.now.shared.key ≤ 4096) }
+    requires idle { IsIdle seat.old.me.0 }
+    requires hits { (0 < length hits.now) × (length hits.now ≤ 4294967295) × (H.hits ≡ hits.now) }
+    requires quota { length seat.old.me.0.entries + length hits.now ≤ seat.old.me.0.quota }
+    requires blank { AreBlank cells.old }
+    requires sound { AreSound table.now.shared.key hits.now }
+    ensures same { (seat.new.table_id ≡ seat.old.table_id) × (length cells.new ≡ length cells.old) }
+    ensures seat { seat.new.me ≡ (passing seat.old.me.0.since seat.old.me.0.quota 0 0 [] (seat.old.me.0.entries ++ stamped result hits.now), seat.old.me.1) }
+    ensures late { (seat.old.me.0.since ≤ result) × AreUpTo result seat.old.me.0.entries }
+    ensures blank { AreBlank cells.new }
+{
+    fold_run(hits, cells);
+    count_cells::<H>(table, seat, hits.len() as u32, cells)
 }
