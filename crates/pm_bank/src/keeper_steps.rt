@@ -9,6 +9,7 @@ use crate::plays::{
 };
 use crate::view::View;
 use atomic_table::Seat;
+use pm_meas::Tally;
 
 /// Cuts a new pass off the keeper.
 pub(crate) fn cut_off<Q: Quota>(
@@ -89,15 +90,22 @@ pub(crate) fn take_word<P: Laid>(
     table.shared.swap::<TakeCell<P>>(seat, place, empty)
 }
 
-/// All words of the ended epoch are taken, and so are its leaves. F's cells are what was found.
-pub(crate) fn take_leaves<F: Found>(table: &Counters, seat: &mut Seat<(), View>, ended: u32)
+/// All words of the ended epoch are taken into a tally, and so are its leaves.
+pub(crate) fn take_leaves<F: Found>(
+    table: &Counters,
+    seat: &mut Seat<(), View>,
+    ended: u32,
+    tally: &Tally,
+)
     requires table { (seat.old.table_id ≡ table.now.shared.table_id) × (table.now.shared.table_id.words ≡ 8 + 8 * table.now.shared.key) }
     requires taking { IsTaking seat.old.me.0 ended }
     requires all { seat.old.me.0.numbers.cleared ≡ 4 * table.now.shared.key }
-    requires size { length F.cells ≡ table.now.shared.key }
-    requires found { (k s : ℕ) → k < 4 → s < table.now.shared.key → word_of k (slice_index_or F.cells s (cell_of [])) ≡ found_at k s seat.old.me.0.told }
-    ensures { (seat.new.table_id ≡ seat.old.table_id) × TakesLeaves F.cells seat.old.me.0 seat.new.me.0 × (seat.new.me.1 ≡ seat.old.me.1) }
+    requires size { length tally.now ≡ table.now.shared.key }
+    requires found { (k s : ℕ) → k < 4 → s < table.now.shared.key → word_of k (slice_index_or tally.now s (cell_of [])) ≡ found_at k s seat.old.me.0.told }
+    requires cells { F.cells ≡ tally.now }
+    ensures { (seat.new.table_id ≡ seat.old.table_id) × TakesLeaves tally.now seat.old.me.0 seat.new.me.0 × (seat.new.me.1 ≡ seat.old.me.1) }
 {
+    let _ = tally;
     let place = 1 + (ended % 2) as usize;
     table.shared.swap::<TakeLeaves<F>>(seat, place, 0);
 }

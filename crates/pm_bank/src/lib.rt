@@ -9,6 +9,7 @@ mod pass;
 mod pass_steps;
 mod plays;
 mod run;
+mod taking;
 mod view;
 mod visit;
 
