@@ -24,3 +24,4 @@ pub mod RunLemmas
 pub mod LaidLemmas
 pub mod MeetLemmas
 pub mod PassedLemmas
+pub mod RegisterLemmas

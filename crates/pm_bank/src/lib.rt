@@ -8,6 +8,7 @@ mod keeper_steps;
 mod pass;
 mod pass_steps;
 mod plays;
+mod registering;
 mod run;
 mod taking;
 mod view;

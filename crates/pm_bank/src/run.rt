@@ -94,7 +94,7 @@ fn lay_cells<H: Hits>(table: &Counters, seat: &mut Seat<(), View>, epoch: u32, c
 }
 
 /// A run that is folded: its events arrive by one step, are laid slot by slot, and leave by one step.
-fn count_cells<H: Hits>(
+pub(crate) fn count_cells<H: Hits>(
     table: &Counters,
     seat: &mut Seat<(), View>,
     count: u32,
