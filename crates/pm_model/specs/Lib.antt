@@ -6,6 +6,17 @@ pub mod Inventory
 pub mod InventoryFields
 pub mod Default
 pub mod Reading
+pub mod Entry
+pub mod History
+pub mod Terms
+pub mod Ticks
+pub mod Standing
+pub mod Counted
+pub mod Value
+pub mod Files
+pub mod Crossed
+pub mod Notices
+pub mod Laws
 pub use Rattle.pm_dn.specs.Tree
 pub use Rattle.pm_dn.specs.Containment
 pub use Rattle.pm_meas.specs.Def

@@ -2,15 +2,19 @@
 #![tactic(auto)]
 
 mod default;
+mod entry;
 mod event;
 mod event_line;
 mod inventory;
+mod law;
 mod line;
 mod listing;
 
+pub use entry::{Entry, Side};
 pub use event::Event;
 pub use event_line::{EventLine, read_event_line};
 pub use inventory::{InvError, Inventory, SLOTS};
+pub use law::{files_grow, notices_grow};
 pub use line::{Stop, take_line};
 
 #[cfg(test)]

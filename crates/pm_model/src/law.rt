@@ -1,0 +1,12 @@
+//! What holds of every history, whatever its bodies ask for.
+ghost use Rattle.pm_model.specs.Laws.{FilesGrow, NoticesGrow};
+
+/// An entry that may come next leaves the files as they are, and adds its own behind them. A law: the call does nothing.
+pub fn files_grow()
+    ensures { FilesGrow }
+{}
+
+/// An entry that may come next leaves the notices as they are, and adds its own behind them. A law: the call does nothing.
+pub fn notices_grow()
+    ensures { NoticesGrow }
+{}
