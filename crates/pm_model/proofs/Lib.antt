@@ -6,3 +6,7 @@ pub mod DefaultLemmas
 pub mod TickLemmas
 pub mod HistoryLemmas
 pub mod StayLemmas
+pub mod StandingLemmas
+pub mod StepLemmas
+pub mod CrossedLemmas
+pub mod DistinctLemmas

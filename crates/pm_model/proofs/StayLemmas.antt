@@ -12,7 +12,8 @@ use Rattle.pm_model.specs.declared.entry.Entry.{Entry}
 use Rattle.pm_model.specs.declared.entry.Entry.TheVariants.{Event}
 use Rattle.pm_model.specs.Entry.{moment_of}
 use Rattle.pm_model.specs.History.{History, Start, ◌▷◌, last_moment, before}
-use Rattle.pm_model.specs.Terms.{Terms, Metric, Measured, Watched, reporting}
+use Rattle.pm_model.specs.declared.metric.Metric.{Metric}
+use Rattle.pm_model.specs.Terms.{Terms, Measured, Watched, reporting}
 use Rattle.pm_model.specs.Ticks.{is_within, behind}
 use Rattle.pm_model.specs.Standing.{Making, Standing, making_of, runs, standing_after, ids_after}
 use Rattle.pm_model.specs.Counted.{is_on, is_touched, is_counted, some_counted, all_counted}

@@ -6,7 +6,8 @@ use Rattle.pm_base.specs.declared.class.Class.{Class}
 use Rattle.pm_model.specs.declared.entry.Side.{Side}
 use Rattle.pm_model.specs.declared.entry.Side.TheVariants.{Job}
 use Rattle.pm_model.specs.History.{History, before, last_moment}
-use Rattle.pm_model.specs.Terms.{Terms, Metric, Measured, reporting}
+use Rattle.pm_model.specs.declared.metric.Metric.{Metric}
+use Rattle.pm_model.specs.Terms.{Terms, Measured, reporting}
 use Rattle.pm_model.specs.Ticks.{behind}
 use Rattle.pm_model.specs.Standing.{Making, Standing, making_of, standing_after, ids_after}
 use Rattle.pm_model.specs.Counted.{some_counted}

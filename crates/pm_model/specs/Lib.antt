@@ -17,6 +17,8 @@ pub mod Files
 pub mod Crossed
 pub mod Notices
 pub mod Laws
+pub mod Body
+pub mod Asked
 pub use Rattle.pm_dn.specs.Tree
 pub use Rattle.pm_dn.specs.Containment
 pub use Rattle.pm_meas.specs.Def

@@ -5,7 +5,8 @@ use Rattle.pm_base.specs.Moment.{tick_of}
 use Rattle.pm_model.specs.declared.entry.Side.{Side}
 use Rattle.pm_model.specs.declared.entry.Side.TheVariants.{Monitor}
 use Rattle.pm_model.specs.History.{History, before, last_moment}
-use Rattle.pm_model.specs.Terms.{Terms, Metric, Watched}
+use Rattle.pm_model.specs.declared.metric.Metric.{Metric}
+use Rattle.pm_model.specs.Terms.{Terms, Watched}
 use Rattle.pm_model.specs.Ticks.{behind}
 use Rattle.pm_model.specs.Standing.{Making, Standing, making_of, standing_after, ids_after}
 use Rattle.pm_model.specs.Value.{measured_value, is_suspect}
@@ -73,13 +74,15 @@ module _ (terms : Side → List ℕ → Terms) where
       (value_sequence h w granularity object watched.metric armed end)
       (value_at h w granularity object watched.metric end)
 
+  -- The crossings of one metric of one threshold: by object in tree order.
+  abbrev pub crossings_by : History → Making → ℕ → ℕ → ℕ → Watched → List Crossed
+  crossings_by h w granularity armed end watched = flat_map (crossing_at h w granularity armed end watched) watched.objects
+
   -- The crossings of a monitor that stands at this end: by threshold, by metric in catalogue order, by object in tree order.
   abbrev pub crossings_of : History → List ℕ → ℕ → Option Standing → List Crossed
   crossings_of h id end None = []
   crossings_of h id end (Some s) =
-      flat_map
-      (λ (watched : Watched). flat_map (crossing_at h (making_of Monitor id s) (terms Monitor s.body).granularity s.armed end watched) watched.objects)
-      (terms Monitor s.body).watched
+      flat_map (crossings_by h (making_of Monitor id s) (terms Monitor s.body).granularity s.armed end) (terms Monitor s.body).watched
 
   -- The crossings of the monitor that stands under an id at this end, by the entries before it.
   abbrev pub crossings_under : History → ℕ → List ℕ → List Crossed

@@ -1,12 +1,7 @@
 -- What a job or a monitor asks for, in the numbers of an inventory. Periods are in ticks (TS 28.622; the permitted periods are this project's own).
 use Rattle.std.specs.Prelude.{ℕ, ◌*◌, Bool, List}
 use Rattle.pm_base.specs.declared.class.Class.{Class}
-use Rattle.pm_meas.specs.declared.kind.Reduce.{Reduce}
-
--- A metric of the catalogue: its number, and how its values become one.
-pub record Metric : Type 0 where
-  pub number : ℕ
-  pub reduce : Reduce
+use Rattle.pm_model.specs.declared.metric.Metric.{Metric}
 
 -- What a job measures on the objects of one class: metrics in catalogue order, objects in tree order.
 pub record Measured : Type 0 where

@@ -6,7 +6,8 @@ use Rattle.pm_model.specs.declared.entry.Side.{Side}
 use Rattle.pm_model.specs.declared.entry.Entry.{Entry}
 use Rattle.pm_model.specs.declared.entry.Entry.TheVariants.{Event}
 use Rattle.pm_model.specs.History.{History, Start, ◌▷◌}
-use Rattle.pm_model.specs.Terms.{Terms, Metric}
+use Rattle.pm_model.specs.declared.metric.Metric.{Metric}
+use Rattle.pm_model.specs.Terms.{Terms}
 use Rattle.pm_model.specs.Ticks.{is_within}
 use Rattle.pm_model.specs.Standing.{Making}
 use Rattle.pm_model.specs.Counted.{is_counted, some_counted, all_counted}

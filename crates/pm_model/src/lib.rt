@@ -9,13 +9,15 @@ mod inventory;
 mod law;
 mod line;
 mod listing;
+mod metric;
 
 pub use entry::{Entry, Side};
 pub use event::Event;
 pub use event_line::{EventLine, read_event_line};
 pub use inventory::{InvError, Inventory, SLOTS};
-pub use law::{files_grow, notices_grow};
+pub use law::{crossings_agree, files_distinct, files_grow, notices_grow};
 pub use line::{Stop, take_line};
+pub use metric::Metric;
 
 #[cfg(test)]
 mod tests;
