@@ -2,20 +2,26 @@
 #![tactic(auto)]
 
 mod default;
+mod entry;
 mod event;
 mod event_line;
 mod inventory;
+mod law;
 mod line;
 mod listing;
+mod metric;
 mod reading;
 mod slot_entry;
 mod slot_places;
 mod slot_table;
 
+pub use entry::{Entry, Side};
 pub use event::Event;
 pub use event_line::{EventLine, read_event_line};
 pub use inventory::{InvError, Inventory, SLOTS};
+pub use law::{crossings_agree, files_distinct, files_grow, notices_grow};
 pub use line::{Stop, take_line};
+pub use metric::Metric;
 pub use reading::{InventoryError, ReadInventory, read_inventory};
 pub use slot_table::SlotTable;
 
