@@ -9,3 +9,4 @@ pub mod GatherLemmas
 pub mod StepLemmas
 pub mod PieceLemmas
 pub mod ReadLemmas
+pub mod QueryLemmas

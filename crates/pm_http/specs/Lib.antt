@@ -6,3 +6,5 @@ pub mod Head
 pub mod Fields
 pub mod Stream
 pub mod Piece
+pub mod Query
+pub mod QuerySteps

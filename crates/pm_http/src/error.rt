@@ -25,6 +25,15 @@ pub enum RouteError {
     Memory,
 }
 
+/// Why the query of a listing isn't read.
+#[derive(Clone, Copy, Debug, PartialEq, Eq)]
+pub enum QueryError {
+    /// A name is none of a listing's or stands twice, or a time is no moment of 1 to 12 digits.
+    L2,
+    /// Memory was wanted.
+    Memory,
+}
+
 /// Why a reply isn't written.
 #[derive(Clone, Copy, Debug, PartialEq, Eq)]
 pub enum ReplyError {

@@ -12,6 +12,7 @@ mod method;
 mod next;
 mod piece;
 mod pushing;
+mod query;
 mod reading;
 mod reply;
 mod replying;
@@ -26,8 +27,9 @@ mod taking;
 mod tests;
 mod trimming;
 
-pub use error::{HttpError, ReplyError, RouteError};
+pub use error::{HttpError, QueryError, ReplyError, RouteError};
 pub use next::Next;
+pub use query::{Query, read_query};
 pub use reading::next_request;
 pub use reply::Reply;
 pub use replying::write_reply;

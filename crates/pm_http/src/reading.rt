@@ -4,7 +4,7 @@ ghost use Rattle.std.specs.List.{All};
 ghost use Rattle.httparse.specs.Grammar.{RequestHead};
 ghost use Rattle.httparse.specs.Spans.{IsRequestAt, IsHeaderWithin, header_bytes};
 ghost use Rattle.pm_base.specs.Causes.{Rose};
-ghost use Rattle.pm_base.specs.Feed.{left_to, KnowsEnd};
+ghost use Rattle.pm_base.specs.Feed.{left_to, KnowsEnd, MOST_READ};
 ghost use Rattle.pm_http.specs.Head.{body_size, first_of, values_of, IsWithinLimit};
 ghost use Rattle.pm_http.specs.Stream.{IsNext, IsPlaced, IsSmall, IsOf};
 ghost use Rattle.pm_http.specs.Piece.{IsGathered, IsParsed};
@@ -20,6 +20,9 @@ use httparse::spans::{HeaderSpan, RequestSpans};
 use pm_base::{Blob, Code, Feed, Source, Text};
 use std::alloc::{AllocError, Global};
 
+// The room that a head begins with, in bytes; a longer one takes more.
+const USUAL_HEAD: usize = 1024;
+
 /// Reads the next request. `offset` in the answer is that of its first byte, counted from the first that the feed gave.
 /// After an error, a framing refusal or a cut, bytes may have been taken, and the feed is of no more use.
 pub fn next_request<S: Source>(
@@ -33,6 +36,7 @@ pub fn next_request<S: Source>(
     ensures small { IfOk result IsSmall }
     ensures given { S.IsTold → feed.new.given + length (left_to feed.new (S.left source.new)) ≡ feed.old.given + length (left_to feed.old (S.left source.old)) }
     ensures knows_end { S.IsTold → KnowsEnd feed.new (S.left source.new) }
+    ensures limit { S.IsTold → result ≡ Err HttpError.Limit → MOST_READ ≤ feed.old.given + length (left_to feed.old (S.left source.old)) }
     ensures failed { result ≡ Err HttpError.ReadFault → Rose (S.faults source.old) (S.faults source.new) }
     ensures later { S.faults source.old ≤ S.faults source.new }
 {
@@ -40,7 +44,9 @@ pub fn next_request<S: Source>(
     let Ok(mut fields) = field_room(alloc) else {
         return Err(HttpError::Memory);
     };
-    let mut head = Vec::new(alloc);
+    let Ok(mut head) = Vec::with_capacity(alloc, USUAL_HEAD) else {
+        return Err(HttpError::Memory);
+    };
     match read_head(alloc, feed, source, &mut head, &mut fields)? {
         HeadEnd::Whole(spans) => { read_rest(alloc, feed, source, &head, &fields, spans, offset) }
         HeadEnd::Crowded | HeadEnd::Long => Ok(Next::Framing {
@@ -73,6 +79,7 @@ fn read_rest<S: Source>(
     ensures small { IfOk result IsSmall }
     ensures given { S.IsTold → feed.new.given + length (left_to feed.new (S.left source.new)) ≡ feed.old.given + length (left_to feed.old (S.left source.old)) }
     ensures knows_end { S.IsTold → KnowsEnd feed.new (S.left source.new) }
+    ensures limit { S.IsTold → result ≡ Err HttpError.Limit → MOST_READ ≤ feed.old.given + length (left_to feed.old (S.left source.old)) }
     ensures failed { result ≡ Err HttpError.ReadFault → Rose (S.faults source.old) (S.faults source.new) }
     ensures later { S.faults source.old ≤ S.faults source.new }
 {

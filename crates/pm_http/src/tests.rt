@@ -51,10 +51,10 @@ fn first_of(alloc: Global, bytes: &[u8]) -> Result<Option<Request>, AllocError> 
     }
 }
 
-// A head with one field of so many bytes.
-fn head_with(alloc: Global, front: &[u8], filling: usize) -> Result<Vec<u8>, AllocError> {
+// A head of so many bytes, which begins with these.
+fn head_of(alloc: Global, front: &[u8], size: usize) -> Result<Vec<u8>, AllocError> {
     let mut bytes = Vec::from_slice(alloc, front)?;
-    bytes.resize(front.len() + filling, b'b')?;
+    bytes.resize(size.saturating_sub(4), b'b')?;
     bytes.extend_from_slice(b"\r\n\r\n")?;
     Ok(bytes)
 }
@@ -96,10 +96,10 @@ fn a_refusal_has_the_code_of_the_first_rule_broken(rt: HostRuntime) -> Result<()
 #[test]
 fn a_head_has_at_most_16384_bytes(rt: HostRuntime) -> Result<(), Fail> {
     let front = b"GET / HTTP/1.1\r\nA: ".as_slice();
-    let whole = head_with(rt.alloc(), front, 16_384 - 4 - front.len())?;
+    let whole = head_of(rt.alloc(), front, 16_384)?;
     assert_eq!(rt; whole.len(), 16_384);
-    assert_eq!(rt; framing_of(rt.alloc(), &whole)?, None);
-    let long = head_with(rt.alloc(), front, 16_384 - 3 - front.len())?;
+    assert!(rt; first_of(rt.alloc(), &whole)?.is_some());
+    let long = head_of(rt.alloc(), front, 16_385)?;
     assert_eq!(rt; framing_of(rt.alloc(), &long)?, Some((Code::H2, 0)));
     Ok(())
 }
@@ -155,19 +155,27 @@ fn reads_stream(alloc: Global, most: usize) -> Result<bool, AllocError> {
     let Ok(Next::CutShort { offset }) = next_request(alloc, &mut feed, &mut source) else {
         return Ok(false);
     };
-    let put = first.method.as_bytes() == b"PUT".as_slice()
-        && first.target.as_bytes() == b"/jobs/a".as_slice()
-        && first
-            .moment
-            .is_some_and(|moment| moment.as_bytes() == b"12".as_slice())
-        && !first.close
-        && first.body.as_bytes() == b"{}".as_slice();
-    let delete = second.method.as_bytes() == b"DELETE".as_slice()
-        && second.target.as_bytes() == b"/jobs/a?b".as_slice()
-        && second.moment.is_none()
-        && second.close
-        && second.body.is_empty();
-    Ok(put && delete && offset == STREAM.len() as u64 - 2)
+    Ok(is_put(&first) && is_delete(&second) && offset == STREAM.len() as u64 - 2)
+}
+
+fn is_put(request: &Request) -> bool {
+    let moment = match &request.moment {
+        Some(moment) => moment.as_bytes(),
+        None => b"",
+    };
+    request.method.as_bytes() == b"PUT".as_slice()
+        && request.target.as_bytes() == b"/jobs/a".as_slice()
+        && moment == b"12".as_slice()
+        && !request.close
+        && request.body.as_bytes() == b"{}".as_slice()
+}
+
+fn is_delete(request: &Request) -> bool {
+    request.method.as_bytes() == b"DELETE".as_slice()
+        && request.target.as_bytes() == b"/jobs/a?b".as_slice()
+        && request.moment.is_none()
+        && request.close
+        && request.body.is_empty()
 }
 
 #[test]
@@ -331,5 +339,40 @@ fn a_fault_of_the_sink_leaves_a_front_of_the_reply(rt: HostRuntime) -> Result<()
     let head =
         b"HTTP/1.1 503 Service Unavailable\r\nContent-Type: application/json\r\nContent-Length: 14\r\nPm-Moment: 0\r\n\r\n";
     assert_eq!(rt; sink.written(), head.as_slice());
+    Ok(())
+}
+
+#[test]
+fn a_query_names_each_of_three_at_most_once(rt: HostRuntime) -> Result<(), Fail> {
+    let asked = read_query(
+        rt.alloc(),
+        b"&begin%54ime=1&&endTime=000000000002&fileDataType=Performance",
+    );
+    let all = Query {
+        performance: Some(true),
+        begin: Some(1),
+        end: Some(2),
+    };
+    assert_eq!(rt; asked, Ok(all));
+    let other = Query {
+        performance: Some(false),
+        begin: None,
+        end: None,
+    };
+    assert_eq!(rt; read_query(rt.alloc(), b"fileDataType"), Ok(other));
+    let refused: [&[u8]; 5] = [
+        b"beginTime=1&beginTime=2",
+        b"beginTime",
+        b"endTime=253402300800",
+        b"endTime=0000000000001",
+        b"x=1",
+    ];
+    for query in refused {
+        assert_eq!(rt;
+            read_query(rt.alloc(), query),
+            Err(QueryError::L2),
+            "at {query:?}"
+        );
+    }
     Ok(())
 }
