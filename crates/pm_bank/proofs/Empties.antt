@@ -13,7 +13,7 @@ use Rattle.pm_bank.specs.declared.view.Entry.{Entry}
 use Rattle.pm_bank.specs.declared.view.Part.{Part}
 use Rattle.pm_bank.specs.declared.view.Taken.{Taken}
 use Rattle.pm_bank.specs.Words.{close, exact, fold_of, found_at, word_of, cell_word}
-use Rattle.pm_bank.specs.Rule.{total, gone, here, part, merged, in_slots, IsClosed, IsTaken, Tells, Kept}
+use Rattle.pm_bank.specs.Rule.{total, gone, here, part, merged, in_slots, Phase, IsClosed, Knows, IsTaken, Tells, Kept}
 use Rattle.pm_bank.specs.Steps.{keeping, emptied}
 use Rattle.pm_bank.proofs.CountLemmas.{complete-set, total_plus, merge_total}
 use Rattle.pm_bank.proofs.TotalLemmas.{total_none, length_set}
@@ -50,17 +50,41 @@ module _ (slots : ℕ) (words : List ℕ) (views : List View) (k : Kept slots wo
     abbrev it : Taken
     it = record { epoch = x.epoch - 1; arrived = x.arrived; cells = cells }
 
+    knows : Knows k.phase views was
+    knows = known slots words views k id x es told taken e last not_taken here_is
+
+    ended : suc e ≡ k.phase.epoch
+    ended = is_last slots words views k id x es told taken e last not_taken here_is
+
+    still_untaken : k.phase.untaken ≡ 0 → ⊥
+    still_untaken = is_untaken slots words views k id x es told taken e last not_taken here_is
+
     p_cleared : k.phase.cleared ≡ 4 * slots
-    p_cleared = sym (known slots words views k id x es told taken e last not_taken here_is).cleared_is ∙ all_cleared
+    p_cleared = sym knows.cleared_is ∙ all_cleared
 
     e_is : e ≡ x.epoch - 1
     e_is = omega (arith, last)
+
+    abbrev later : Phase
+    later = next slots words views k id x es told taken e last not_taken here_is 0 0 0 x.looks x.seen [] (taken ++ it ∷ [])
+
+    abbrev end : View
+    end = now slots words views k id x es told taken e last not_taken here_is 0 0 0 x.looks x.seen [] (taken ++ it ∷ [])
+
+    abbrev ends : List View
+    ends = after slots words views k id x es told taken e last not_taken here_is 0 0 0 x.looks x.seen [] (taken ++ it ∷ [])
+
+    same_sum : (f : View → ℕ) → f end ≡ f was → total f ends ≡ total f views
+    same_sum = stays slots words views k id x es told taken e last not_taken here_is 0 0 0 x.looks x.seen [] (taken ++ it ∷ [])
+
+    same_merges : (j z s : ℕ) → merged j z s ends ≡ merged j z s views
+    same_merges = same_merged slots words views k id x es told taken e last not_taken here_is 0 0 0 x.looks x.seen [] (taken ++ it ∷ [])
 
     old : Tells slots k.phase views was
     old = k.counts.tells id was here_is refl
 
     words_are : (j s : ℕ) → j < 4 → s < slots → word_of j (get_or cells s (cell_of [])) ≡ exact j (merged j e s views)
-    words_are j s lt inside = are j s lt inside ∙ old.found_is j s e lt inside (omega (arith, lt, inside, p_cleared)) (is_last slots words views k id x es told taken e last not_taken here_is)
+    words_are j s lt inside = are j s lt inside ∙ old.found_is j s e lt inside (omega (arith, lt, inside, p_cleared)) ended
 
     -- all arrivals are in the cells
     pub all_counted : sum_by (λ (c : Cell). c.n) cells ≡ x.arrived
@@ -70,24 +94,24 @@ module _ (slots : ℕ) (words : List ℕ) (views : List View) (k : Kept slots wo
         let sum = sum_is cells (λ s. total (λ (v : View). fold_of 0 e s v.entries) views) each in
         let whole = spread_up slots e views in
         let n_is = ap (λ (n : ℕ). up_to n (λ s. total (λ (v : View). fold_of 0 e s v.entries) views)) size in
-        let c = k.counts.complete e in let b = total_both e views in let z = closed slots words views k id x es told taken e last not_taken here_is is_sealed in let a = (known slots words views k id x es told taken e last not_taken here_is).arrived_is (is_untaken slots words views k id x es told taken e last not_taken here_is) e (is_last slots words views k id x es told taken e last not_taken here_is) in omega (arith, sum, n_is, whole, c, b, z, a)
+        let c = k.counts.complete e in let b = total_both e views in let z = closed slots words views k id x es told taken e last not_taken here_is is_sealed in let a = knows.arrived_is still_untaken e ended in omega (arith, sum, n_is, whole, c, b, z, a)
 
     -- an epoch that is closed stays so
-    stays_closed : (y : ℕ) → (y ≡ k.phase.epoch → ⊥) → IsClosed (next slots words views k id x es told taken e last not_taken here_is 0 0 0 x.looks x.seen [] (taken ++ it ∷ [])) y
+    stays_closed : (y : ℕ) → (y ≡ k.phase.epoch → ⊥) → IsClosed later y
     stays_closed y behind = record { behind = behind; drained = λ _ some_untaken _. some_untaken refl }
 
-    is_taken : (y : ℕ) → e ≡ y → IsTaken slots (next slots words views k id x es told taken e last not_taken here_is 0 0 0 x.looks x.seen [] (taken ++ it ∷ [])) (after slots words views k id x es told taken e last not_taken here_is 0 0 0 x.looks x.seen [] (taken ++ it ∷ [])) (record { epoch = y; arrived = x.arrived; cells = cells })
+    is_taken : (y : ℕ) → e ≡ y → IsTaken slots later ends (record { epoch = y; arrived = x.arrived; cells = cells })
     is_taken y is =
-        subst (λ (z : ℕ). IsTaken slots (next slots words views k id x es told taken e last not_taken here_is 0 0 0 x.looks x.seen [] (taken ++ it ∷ [])) (after slots words views k id x es told taken e last not_taken here_is 0 0 0 x.looks x.seen [] (taken ++ it ∷ [])) (record { epoch = z; arrived = x.arrived; cells = cells })) is
+        subst (λ (z : ℕ). IsTaken slots later ends (record { epoch = z; arrived = x.arrived; cells = cells })) is
         (record {
-          past = let l = is_last slots words views k id x es told taken e last not_taken here_is in omega (arith, l);
-          closed = stays_closed e (λ z. let l = is_last slots words views k id x es told taken e last not_taken here_is in omega (arith, z, l));
+          past = let l = ended in omega (arith, l);
+          closed = stays_closed e (λ z. let l = ended in omega (arith, z, l));
           size = size;
-          arrived_is = (known slots words views k id x es told taken e last not_taken here_is).arrived_is (is_untaken slots words views k id x es told taken e last not_taken here_is) e (is_last slots words views k id x es told taken e last not_taken here_is) ∙ sym (stays slots words views k id x es told taken e last not_taken here_is 0 0 0 x.looks x.seen [] (taken ++ it ∷ []) (here e) refl);
-          cells_are = λ j s lt inside. words_are j s lt inside ∙ sym (ap (exact j) (same_merged slots words views k id x es told taken e last not_taken here_is 0 0 0 x.looks x.seen [] (taken ++ it ∷ []) j e s));
+          arrived_is = knows.arrived_is still_untaken e ended ∙ sym (same_sum (here e) refl);
+          cells_are = λ j s lt inside. words_are j s lt inside ∙ sym (ap (exact j) (same_merges j e s));
         })
 
-    tells : Tells slots (next slots words views k id x es told taken e last not_taken here_is 0 0 0 x.looks x.seen [] (taken ++ it ∷ [])) (after slots words views k id x es told taken e last not_taken here_is 0 0 0 x.looks x.seen [] (taken ++ it ∷ [])) (now slots words views k id x es told taken e last not_taken here_is 0 0 0 x.looks x.seen [] (taken ++ it ∷ []))
+    tells : Tells slots later ends end
     tells =
         record {
           found_is = λ _ _ _ _ _ none. absurd (omega (arith, none));
@@ -95,10 +119,10 @@ module _ (slots : ℕ) (words : List ℕ) (views : List View) (k : Kept slots wo
               ⊎_elim
               (λ (was_so : get_elem? taken j ≡ some t).
               let one = old.taken_is j t was_so in
-              taken_stays slots k.phase (next slots words views k id x es told taken e last not_taken here_is 0 0 0 x.looks x.seen [] (taken ++ it ∷ [])) views (after slots words views k id x es told taken e last not_taken here_is 0 0 0 x.looks x.seen [] (taken ++ it ∷ [])) t
-              (keeper_still views id was (now slots words views k id x es told taken e last not_taken here_is 0 0 0 x.looks x.seen [] (taken ++ it ∷ [])) here_is k.phase (next slots words views k id x es told taken e last not_taken here_is 0 0 0 x.looks x.seen [] (taken ++ it ∷ [])) k.seats slots (λ _. refl) (λ _ _ _. refl))
+              taken_stays slots k.phase later views ends t
+              (keeper_still views id was end here_is k.phase later k.seats slots (λ _. refl) (λ _ _ _. refl))
               one.past (stays_closed t.epoch one.closed.behind) one)
-              (λ (new : it ≡ t). subst (IsTaken slots (next slots words views k id x es told taken e last not_taken here_is 0 0 0 x.looks x.seen [] (taken ++ it ∷ [])) (after slots words views k id x es told taken e last not_taken here_is 0 0 0 x.looks x.seen [] (taken ++ it ∷ []))) new (is_taken (x.epoch - 1) e_is))
+              (λ (new : it ≡ t). subst (IsTaken slots later ends) new (is_taken (x.epoch - 1) e_is))
               (at_snoc taken it t j at);
         }
 
@@ -108,25 +132,25 @@ module _ (slots : ℕ) (words : List ℕ) (views : List View) (k : Kept slots wo
     pub empties : Kept slots (set words (1 + e % 2) 0) (set views id (emptied cells was))
     empties =
         record {
-          phase = next slots words views k id x es told taken e last not_taken here_is 0 0 0 x.looks x.seen [] (taken ++ it ∷ []);
+          phase = later;
           counts = record {
-            complete = complete-set slots views id was (now slots words views k id x es told taken e last not_taken here_is 0 0 0 x.looks x.seen [] (taken ++ it ∷ [])) here_is refl k.counts.complete;
-            tells = keeper_tells views id was (now slots words views k id x es told taken e last not_taken here_is 0 0 0 x.looks x.seen [] (taken ++ it ∷ [])) here_is k.phase (next slots words views k id x es told taken e last not_taken here_is 0 0 0 x.looks x.seen [] (taken ++ it ∷ [])) k.seats slots refl tells;
+            complete = complete-set slots views id was end here_is refl k.counts.complete;
+            tells = keeper_tells views id was end here_is k.phase later k.seats slots refl tells;
           };
           size = length_set words (1 + e % 2) 0 ∙ k.size;
           seats = next_seats slots words views k id x es told taken e last not_taken here_is 0 0 0 x.looks x.seen [] (taken ++ it ∷ []) (λ z. absurd (omega (arith, z))) (λ _. closed slots words views k id x es told taken e last not_taken here_is is_sealed);
           gates = record {
             fits = k.gates.fits;
-            gate = let w = stays_word 0 (λ z. omega (arith, z)) in let g = k.gates.gate in let t = stays slots words views k id x es told taken e last not_taken here_is 0 0 0 x.looks x.seen [] (taken ++ it ∷ []) (here k.phase.epoch) refl in omega (arith, w, g, t);
-            now = stays_word (1 + k.phase.epoch % 2) (λ z. let l = is_last slots words views k id x es told taken e last not_taken here_is in omega (arith, z, l)) ∙ k.gates.now ∙ sym (stays slots words views k id x es told taken e last not_taken here_is 0 0 0 x.looks x.seen [] (taken ++ it ∷ []) (gone k.phase.epoch) refl);
+            gate = let w = stays_word 0 (λ z. omega (arith, z)) in let g = k.gates.gate in let t = same_sum (here k.phase.epoch) refl in omega (arith, w, g, t);
+            now = stays_word (1 + k.phase.epoch % 2) (λ z. let l = ended in omega (arith, z, l)) ∙ k.gates.now ∙ sym (same_sum (gone k.phase.epoch) refl);
             before = λ z. absurd (z refl);
             empty = λ _.
-                let same_word : 1 + suc k.phase.epoch % 2 ≡ 1 + e % 2 = (let l = is_last slots words views k id x es told taken e last not_taken here_is in omega (arith, l)) in
+                let same_word : 1 + suc k.phase.epoch % 2 ≡ 1 + e % 2 = (let l = ended in omega (arith, l)) in
                 let long : 1 + e % 2 < length words = (let c = k.size in omega (arith, c)) in
                 let zero_is : slice_index (set words (1 + e % 2) 0) (1 + e % 2) ≡ 0 = rw get_or-set_same refl in subst (λ (j : ℕ). slice_index (set words (1 + e % 2) 0) j ≡ 0) (sym same_word) zero_is;
           };
           cells = record {
-            now = λ j s lt inside. stays_word (cell_word k.phase.epoch j s) (λ z. omega (arith, z)) ∙ k.cells.now j s lt inside ∙ sym (ap (close j) (same_merged slots words views k id x es told taken e last not_taken here_is 0 0 0 x.looks x.seen [] (taken ++ it ∷ []) j k.phase.epoch s));
+            now = λ j s lt inside. stays_word (cell_word k.phase.epoch j s) (λ z. omega (arith, z)) ∙ k.cells.now j s lt inside ∙ sym (ap (close j) (same_merges j k.phase.epoch s));
             before = λ z. absurd (z refl);
             empty = λ j s lt inside _. stays_word (cell_word (suc k.phase.epoch) j s) (λ z. omega (arith, z)) ∙ k.cells.empty j s lt inside (inr (omega (arith, lt, inside, p_cleared)));
           };

@@ -22,3 +22,8 @@ pub use pm_meas::Tally;
 pub use run::Scratch;
 pub use view::{Entry, Hit, Numbers, Part, Taken, View};
 pub use visit::Visit;
+
+#[cfg(test)]
+mod tests;
+#[cfg(test)]
+mod thread_tests;
