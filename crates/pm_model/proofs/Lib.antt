@@ -10,3 +10,5 @@ pub mod StandingLemmas
 pub mod StepLemmas
 pub mod CrossedLemmas
 pub mod DistinctLemmas
+pub mod SumLemmas
+pub mod ConservedLemmas
