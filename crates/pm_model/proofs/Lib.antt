@@ -14,3 +14,5 @@ pub mod StandingLemmas
 pub mod StepLemmas
 pub mod CrossedLemmas
 pub mod DistinctLemmas
+pub mod SumLemmas
+pub mod ConservedLemmas

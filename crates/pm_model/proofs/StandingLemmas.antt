@@ -19,7 +19,7 @@ use Rattle.pm_model.proofs.HistoryLemmas.{before-stays}
 -- changed its state.
 pub data Came (side : Side) (id : List ℕ) (place : ℕ) (old : Option Standing) (e : Entry) (s : Standing) : Type 0 where
   Kept : is_some (change_of side id e) ≡ false → old ≡ Some s → Came side id place old e s
-  New : is_some (change_of side id e) ≡ true → s.place ≡ place → s.changed ≡ moment_of e → s.armed ≡ moment_of e → Came side id place old e s
+  New : is_some (change_of side id e) ≡ true → s.place ≡ place → s.changed ≡ moment_of e → s.armed ≡ moment_of e → change_of side id e ≡ Some (Made s.body) → Came side id place old e s
   Changed : (was : Standing) → is_some (change_of side id e) ≡ true → old ≡ Some was → s.place ≡ was.place → s.body ≡ was.body → s.changed ≡ moment_of e → Came side id place old e s
 
 map_some : {A : Type 0} (f : A → A) (y : A) (o : Option A) → option_map f o ≡ Some y → (x : A) × (o ≡ Some x) × (f x ≡ y)
@@ -71,6 +71,7 @@ module _ (terms : Side → List ℕ → Terms) where
       by (Some (Made body)) is k =
           let same = sym (some-is _ s k) in
           New (ap is_some is) (ap (λ (x : Standing). x.place) same) (ap (λ (x : Standing). x.changed) same) (ap (λ (x : Standing). x.armed) same)
+          (is ∙ ap (λ (x : Standing). Some (Made x.body)) (sym same))
       by (Some (Moved unlocked)) is k =
           let p = map_some (moved (moment_of e) unlocked) s old k in
           let same = sym p.2 in
@@ -86,7 +87,7 @@ module _ (terms : Side → List ℕ → Terms) where
   changed-le side (h ▷ e) id s is after =
       elim (came side id (size h) (standing_after terms side h id) e s after) [
         | Kept u old ↦ let le = changed-le side h id s is.0 old in let later = is.1.later in omega arith
-        | New u p c a ↦ omega arith
+        | New u p c a b ↦ omega arith
         | Changed was u old p b c ↦ omega arith
       ]
 
@@ -96,7 +97,7 @@ module _ (terms : Side → List ℕ → Terms) where
   place-lt side (h ▷ e) id s after =
       elim (came side id (size h) (standing_after terms side h id) e s after) [
         | Kept u old ↦ let lt = place-lt side h id s old in omega arith
-        | New u p c a ↦ omega arith
+        | New u p c a b ↦ omega arith
         | Changed was u old p b c ↦ let lt = place-lt side h id was old in omega arith
       ]
 
@@ -125,7 +126,7 @@ module _ (terms : Side → List ℕ → Terms) where
         | Kept u old ↦
             let off : is_on terms w h e ≡ false = and_left _ _ u in
             or_false _ _ (and_right here _ off) ∙ is_touched-standing side h id s t is.0 old (omega arith)
-        | New u p c a ↦
+        | New u p c a b ↦
             let off = is_touched-unmade h w t (omega arith) in
             let on : is_on terms w h e ≡ true = and_from _ _ u (or_right _ _ (stands-same _ s s.place after refl)) in
             ap (λ b. b || (here && is_on terms w h e)) off ∙ (and_true here _ on ∙ ap (λ n. eqb (tick_of n) t) (sym c))
@@ -150,7 +151,7 @@ module _ (terms : Side → List ℕ → Terms) where
             ap (λ g. standing_after terms side g id) (before-stays h e m later)
             ∙ elim (came side id (size h) (standing_after terms side h id) e s after) [
               | Kept u old ↦ standing_after-before side h id s m old lt
-              | New u p c a ↦ absurd (omega arith)
+              | New u p c a b ↦ absurd (omega arith)
               | Changed was u old p b c ↦ absurd (omega arith)
             ]
       ]

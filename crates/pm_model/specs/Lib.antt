@@ -20,6 +20,7 @@ pub mod Value
 pub mod Files
 pub mod Crossed
 pub mod Notices
+pub mod Conserved
 pub mod Laws
 pub mod Body
 pub mod Asked

@@ -1,4 +1,5 @@
 //! What holds of every history, whatever its bodies ask for.
+ghost use Rattle.pm_model.specs.Conserved.{SumsConserved};
 ghost use Rattle.pm_model.specs.Laws.{CrossingsAgree, FilesDistinct, FilesGrow, NoticesGrow};
 
 /// An entry that may come next leaves the files as they are, and adds its own behind them. A law: the call does nothing.
@@ -19,4 +20,9 @@ pub fn files_distinct()
 /// A crossing as the notices find it stands exactly where the definition on whole sequences has one. A law: the call does nothing.
 pub fn crossings_agree()
     ensures { CrossingsAgree }
+{}
+
+/// The results of a counter in all files of a job add up to the events that are counted for it there. A law: the call does nothing.
+pub fn sums_conserved()
+    ensures { SumsConserved }
 {}

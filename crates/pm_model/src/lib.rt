@@ -19,7 +19,7 @@ pub use entry::{Entry, Side};
 pub use event::Event;
 pub use event_line::{EventLine, read_event_line};
 pub use inventory::{InvError, Inventory, SLOTS};
-pub use law::{crossings_agree, files_distinct, files_grow, notices_grow};
+pub use law::{crossings_agree, files_distinct, files_grow, notices_grow, sums_conserved};
 pub use line::{Stop, take_line};
 pub use metric::Metric;
 pub use reading::{InventoryError, ReadInventory, read_inventory};
