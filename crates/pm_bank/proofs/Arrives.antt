@@ -7,7 +7,7 @@ use Rattle.pm_bank.specs.declared.view.View.{View}
 use Rattle.pm_bank.specs.declared.view.Entry.{Entry}
 use Rattle.pm_bank.specs.Entries.{AreUpTo}
 use Rattle.pm_bank.specs.Words.{op, fold_of}
-use Rattle.pm_bank.specs.Rule.{total, gone, here, part, Phase, IsClosed, Fits, Gates, Kept}
+use Rattle.pm_bank.specs.Rule.{total, gone, here, part, Phase, Fits, Gates, Kept}
 use Rattle.pm_bank.specs.Steps.{passing}
 use Rattle.pm_bank.proofs.FoldLemmas.{when-same, when-other, when-zero, count-at_most, up_to-none}
 use Rattle.pm_bank.proofs.CountLemmas.{complete-set}

@@ -1,19 +1,17 @@
 -- Entries counted slot by slot.
-use Rattle.std.proofs.Common.{◌≡◌, ◌≢◌, ℕ, zero, suc, ◌+◌, ◌/◌, ◌<◌, ◌≤◌, List, [], ◌∷◌, ◌++◌, length, set, true, false, Bool, refl, sym, ap, ◌∙◌, subst, ⊎_elim, eqb, arith}
+use Rattle.std.proofs.Common.{◌≡◌, ◌≢◌, ℕ, zero, suc, ◌+◌, ◌<◌, ◌≤◌, List, [], ◌∷◌, ◌++◌, length, set, refl, sym, ap, subst, arith}
 use mathlib.Core.Option.{some}
-use mathlib.Core.Bool.{cond}
 use mathlib.Core.Logic.{dite}
 use native.Mathlib.Decide.{ℕ_discrete}
 use lib.ListN.{get_elem?}
-use Rattle.atomic_table.proofs.Lists.{at_set}
 use Rattle.pm_bank.specs.declared.view.View.{View}
 use Rattle.pm_bank.specs.declared.view.Hit.{Hit}
 use Rattle.pm_bank.specs.declared.view.Entry.{Entry}
 use Rattle.pm_bank.specs.Entries.{when, stamped, count_in, AreSound}
-use Rattle.pm_bank.specs.Words.{op, run_fold, fold_of, spread, run_spread}
+use Rattle.pm_bank.specs.Words.{op, run_fold, spread, run_spread}
 use Rattle.pm_bank.specs.Rule.{total, merge, gone, in_slots}
 use Rattle.pm_bank.proofs.FoldLemmas.{when-same, when-other, when-zero, when-op, fold-append, fold-stamped}
-use Rattle.pm_bank.proofs.TotalLemmas.{total_set, total_none}
+use Rattle.pm_bank.proofs.TotalLemmas.{total_set}
 
 pub spread_nil : (n e : ℕ) → spread n e [] ≡ 0
 spread_nil zero e = refl

@@ -1,5 +1,5 @@
 -- The ended epoch, while the keeper looks at its leaves and takes its words.
-use Rattle.std.proofs.Common.{◌≡◌, ◌≢◌, ℕ, zero, suc, ◌+◌, ◌-◌, ◌*◌, ◌%◌, ◌<◌, ◌≤◌, List, [], ◌∷◌, set, Bool, true, false, true≢false, refl, sym, ap, ◌∙◌, subst, min, arith}
+use Rattle.std.proofs.Common.{◌≡◌, ◌≢◌, ℕ, zero, suc, ◌+◌, ◌-◌, ◌%◌, ◌<◌, ◌≤◌, List, [], ◌∷◌, set, Bool, true, false, true≢false, refl, sym, ap, ◌∙◌, subst, min, arith}
 use Rattle.std.specs.Prelude.{slice_index}
 use mathlib.Core.Option.{some, some-injective}
 use mathlib.Core.Logic.{dite}
@@ -18,7 +18,7 @@ use Rattle.pm_bank.proofs.FoldLemmas.{op-unit, when-zero, when-same, when-other,
 use Rattle.pm_bank.proofs.CountLemmas.{merge_total, merge_most}
 use Rattle.pm_bank.proofs.TotalLemmas.{total_at, total_none, total_le, total_times}
 use Rattle.pm_bank.proofs.StayLemmas.{merged_stays}
-use Rattle.pm_bank.proofs.KeeperLemmas.{part_none, same, keeper_seats}
+use Rattle.pm_bank.proofs.KeeperLemmas.{same, keeper_seats}
 
 pub total_both : (y : ℕ) (vs : List View) → total (here y) vs ≡ total (gone y) vs + total (visits y) vs
 total_both y [] = refl

@@ -1,14 +1,14 @@
 -- The cell of the entries of a slot, word by word.
-use Rattle.std.proofs.Common.{◌≡◌, ℕ, zero, suc, ◌+◌, ◌-◌, ◌<◌, ◌≤◌, List, [], ◌∷◌, length, sum, max, min, Bool, true, false, eqb, ◌&&◌, refl, sym, ap, ◌∙◌, arith, get_or}
+use Rattle.std.proofs.Common.{◌≡◌, ℕ, zero, suc, ◌+◌, ◌-◌, ◌<◌, ◌≤◌, List, [], ◌∷◌, length, sum, max, Bool, true, false, eqb, ◌&&◌, refl, ap, ◌∙◌, arith, get_or}
 use mathlib.Core.Bool.{cond}
 use mathlib.Core.Option.{some}
 use lib.ListN.{get_elem?}
 use Rattle.pm_meas.specs.declared.cell.Cell.{Cell}
-use Rattle.pm_meas.specs.Cell.{cell_of, greatest, lowest}
+use Rattle.pm_meas.specs.Cell.{greatest, lowest}
 use Rattle.pm_meas.proofs.CellLemmas.{lowest-append, sum-append}
 use Rattle.pm_bank.specs.declared.view.Entry.{Entry}
 use Rattle.pm_bank.specs.Entries.{when, values_of, cell_in, AreSmall}
-use Rattle.pm_bank.specs.Words.{op, amount, exact, fold_of, word_of}
+use Rattle.pm_bank.specs.Words.{exact, fold_of, word_of}
 
 -- one more value, where it is wanted
 n_case : (b c : Bool) (v : ℕ) (vs : List ℕ) → cond b (cond c 1 0) 0 + length vs ≡ length (cond (b && c) (v ∷ vs) vs)

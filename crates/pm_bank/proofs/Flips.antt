@@ -3,7 +3,6 @@ use Rattle.std.proofs.Common.{◌≡◌, ◌≢◌, ℕ, suc, ◌+◌, ◌*◌, 
 use Rattle.std.specs.Prelude.{slice_index}
 use mathlib.Core.Option.{some}
 use lib.ListN.{get_elem?}
-use Rattle.atomic_table.proofs.Lists.{at_snoc, at_set}
 use Rattle.pm_bank.specs.declared.view.View.{View}
 use Rattle.pm_bank.specs.declared.view.Numbers.{Numbers}
 use Rattle.pm_bank.specs.declared.view.Entry.{Entry}
@@ -11,7 +10,7 @@ use Rattle.pm_bank.specs.declared.view.Part.{Part}
 use Rattle.pm_bank.specs.declared.view.Taken.{Taken}
 use Rattle.pm_bank.specs.Entries.{count_in}
 use Rattle.pm_bank.specs.Words.{op, close, cell_word}
-use Rattle.pm_bank.specs.Rule.{in_slots, Counts, total, gone, here, lives, quota, met, aged, part, merged, Phase, IsClosed, Fits, Knows, Seats, Gates, Cells, Tells, Kept}
+use Rattle.pm_bank.specs.Rule.{Counts, total, gone, here, lives, quota, met, aged, part, merged, Phase, IsClosed, Fits, Knows, Seats, Gates, Cells, Tells, Kept}
 use Rattle.pm_bank.specs.Steps.{keeping, flipped, IsSettled}
 use Rattle.pm_bank.proofs.FoldLemmas.{op-unit, op-comm, op-assoc, when-zero}
 use Rattle.pm_bank.proofs.MergeLemmas.{none_has}

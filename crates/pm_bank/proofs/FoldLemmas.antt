@@ -6,7 +6,7 @@ use native.Mathlib.Decide.{ℕ_discrete}
 use Rattle.pm_bank.specs.declared.view.Part.{Part}
 use Rattle.pm_bank.specs.declared.view.Hit.{Hit}
 use Rattle.pm_bank.specs.declared.view.Entry.{Entry}
-use Rattle.pm_bank.specs.Entries.{when, stamped, count_in, values_of, cell_in, AreSmall, AreSound, AreUpTo}
+use Rattle.pm_bank.specs.Entries.{when, stamped, count_in, AreSmall, AreSound, AreUpTo}
 use Rattle.pm_bank.specs.Words.{op, amount, exact, close, run_fold, fold_of, found_at}
 
 pub when-same : (e n : ℕ) → when e e n ≡ n

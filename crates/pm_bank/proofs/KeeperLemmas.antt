@@ -1,5 +1,5 @@
 -- A step of the keeper alone: what is known of all views goes on.
-use Rattle.std.proofs.Common.{◌≡◌, ◌≢◌, ℕ, suc, ◌+◌, ◌≤◌, List, [], set, true, sym, ap, ◌∙◌, subst, ⊎_elim, arith}
+use Rattle.std.proofs.Common.{◌≡◌, ◌≢◌, ℕ, ◌+◌, ◌≤◌, List, [], set, true, sym, ap, ◌∙◌, subst, ⊎_elim, arith}
 use mathlib.Core.Option.{some}
 use mathlib.Core.Logic.{dite}
 use native.Mathlib.Decide.{ℕ_discrete}
@@ -8,7 +8,7 @@ use Rattle.atomic_table.proofs.Lists.{at_set}
 use Rattle.pm_bank.specs.declared.view.View.{View}
 use Rattle.pm_bank.specs.Entries.{when}
 use Rattle.pm_bank.specs.Words.{op, laid}
-use Rattle.pm_bank.specs.Rule.{total, here, visits, quota, met, part, merged, Phase, Fits, Knows, Seats, Tells}
+use Rattle.pm_bank.specs.Rule.{total, here, visits, quota, met, part, Phase, Fits, Knows, Seats, Tells}
 use Rattle.pm_bank.proofs.FoldLemmas.{when-same, when-other, when-zero, op-unit, fold-none}
 use Rattle.pm_bank.proofs.TotalLemmas.{total_set}
 use Rattle.pm_bank.proofs.StayLemmas.{merged_stays}

@@ -1,5 +1,5 @@
 -- Laying an amount into a word of a cell keeps the rule.
-use Rattle.std.proofs.Common.{◌≡◌, ◌≢◌, ◌⊎◌, ℕ, suc, ◌+◌, ◌*◌, ◌%◌, ◌<◌, List, ◌∷◌, length, set, get_or-set_other, get_or-set_same, true≢false, refl, sym, ap, ◌∙◌, subst, inl, inr, ⊎_elim, arith}
+use Rattle.std.proofs.Common.{◌≡◌, ◌≢◌, ◌⊎◌, ℕ, suc, ◌+◌, ◌*◌, ◌%◌, ◌<◌, List, ◌∷◌, length, set, get_or-set_other, get_or-set_same, true≢false, refl, sym, ap, ◌∙◌, subst, ⊎_elim, arith}
 use Rattle.std.specs.Prelude.{slice_index}
 use mathlib.Core.Option.{some}
 use mathlib.Core.Logic.{dite}
@@ -10,13 +10,13 @@ use Rattle.pm_bank.specs.declared.view.Part.{Part}
 use Rattle.pm_bank.specs.declared.view.Entry.{Entry}
 use Rattle.pm_bank.specs.Entries.{when}
 use Rattle.pm_bank.specs.Words.{op, close, laid, fold_of, cell_word}
-use Rattle.pm_bank.specs.Rule.{total, gone, here, visits, part, merged, Phase, IsClosed, Cells, Kept}
+use Rattle.pm_bank.specs.Rule.{gone, here, visits, part, merged, Phase, IsClosed, Cells, Kept}
 use Rattle.pm_bank.specs.Steps.{passing}
 use Rattle.pm_bank.proofs.FoldLemmas.{when-same, when-other, when-zero, when-op, op-unit, op-comm, op-assoc}
 use Rattle.pm_bank.proofs.CountLemmas.{complete-set}
 use Rattle.pm_bank.proofs.TellLemmas.{IsStill, tells_after_pass}
 use Rattle.pm_bank.proofs.VisitLemmas.{stands, closed_apart, IsEnded}
-use Rattle.pm_bank.proofs.TotalLemmas.{length_set, total_at}
+use Rattle.pm_bank.proofs.TotalLemmas.{length_set}
 use Rattle.pm_bank.proofs.StayLemmas.{gates_stay, merged_gains, merged_stays, words_apart}
 use Rattle.pm_bank.proofs.PassLemmas.{IsPassStep, moves, seats_after}
 

@@ -1,9 +1,7 @@
 -- A leave keeps the rule, once each word has its part of the visit's events.
-use Rattle.std.proofs.Common.{◌/◌, ◌≡◌, ◌≢◌, ◌⊎◌, ℕ, suc, ◌+◌, ◌%◌, ◌<◌, List, [], ◌++◌, length, set, get_or-set_other, get_or-set_same, true≢false, refl, sym, ap, ◌∙◌, subst, inl, inr, ⊎_elim, arith}
+use Rattle.std.proofs.Common.{◌≡◌, ◌≢◌, ◌⊎◌, ℕ, suc, ◌+◌, ◌%◌, ◌<◌, List, [], ◌++◌, length, set, get_or-set_other, get_or-set_same, true≢false, refl, sym, ap, ◌∙◌, subst, ⊎_elim, arith}
 use Rattle.std.specs.Prelude.{slice_index}
 use mathlib.Core.Option.{some}
-use mathlib.Core.Logic.{dite}
-use native.Mathlib.Decide.{ℕ_discrete}
 use lib.ListN.{get_elem?}
 use Rattle.pm_bank.specs.declared.view.View.{View}
 use Rattle.pm_bank.specs.declared.view.Hit.{Hit}
@@ -14,11 +12,10 @@ use Rattle.pm_bank.specs.Words.{op, run_fold, laid, fold_of, run_spread}
 use Rattle.pm_bank.specs.Rule.{in_slots, Counts, total, gone, here, visits, part, Phase, Gates, Kept}
 use Rattle.pm_bank.specs.Steps.{passing}
 use Rattle.pm_bank.proofs.FoldLemmas.{when-same, when-other, when-zero, op-unit, fold-append, fold-stamped, count-append, count-stamped, small-append, small-stamped}
-use Rattle.atomic_table.proofs.Lists.{at_set}
 use Rattle.pm_bank.proofs.CountLemmas.{spread_append, spread_stamped, run_complete}
 use Rattle.pm_bank.proofs.TellLemmas.{IsStill, tells_after_pass}
 use Rattle.pm_bank.proofs.VisitLemmas.{stands, IsEnded}
-use Rattle.pm_bank.proofs.TotalLemmas.{length_set, total_le, total_at}
+use Rattle.pm_bank.proofs.TotalLemmas.{length_set, total_le}
 use Rattle.pm_bank.proofs.StayLemmas.{cells_stay, merged_stays}
 use Rattle.pm_bank.proofs.PassLemmas.{IsPassStep, moves, seats_after}
 

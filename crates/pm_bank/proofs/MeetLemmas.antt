@@ -1,13 +1,12 @@
 -- What the keeper is after it met a pass.
-use Rattle.std.proofs.Common.{◌≡◌, ℕ, suc, ◌+◌, ◌-◌, ◌<◌, ◌≤◌, List, [], ◌∷◌, ◌++◌, length, min, Option, refl, sym, ap, ◌∙◌, subst, arith}
+use Rattle.std.proofs.Common.{◌≡◌, ℕ, suc, ◌+◌, ◌-◌, ◌≤◌, List, [], ◌∷◌, ◌++◌, min, Option, ap, ◌∙◌, subst, arith}
 use Rattle.atomic_table.specs.Table.{Me}
 use Rattle.atomic_table.specs.Seated.{TableId}
 use Rattle.pm_bank.specs.declared.view.View.{View}
 use Rattle.pm_bank.specs.declared.view.Numbers.{Numbers}
 use Rattle.pm_bank.specs.declared.view.Entry.{Entry}
-use Rattle.pm_bank.specs.declared.view.Taken.{Taken}
 use Rattle.pm_bank.specs.Entries.{AreUpTo}
-use Rattle.pm_bank.specs.Views.{KeeperView, PassView, Meets}
+use Rattle.pm_bank.specs.Views.{KeeperView, Meets}
 use Rattle.pm_bank.specs.Steps.{IsKeeping, IsPass, Settles, meets}
 
 -- what holds of all joined entries holds of the later ones

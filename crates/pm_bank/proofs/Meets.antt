@@ -1,5 +1,5 @@
 -- Meeting a pass keeps the rule.
-use Rattle.std.proofs.Common.{◌/◌, ◌≡◌, ◌≢◌, ℕ, ◌+◌, ◌≤◌, List, [], ◌++◌, length, set, true≢false, refl, sym, ap, ◌∙◌, subst, ⊎_elim, arith}
+use Rattle.std.proofs.Common.{◌≡◌, ◌≢◌, ℕ, ◌+◌, ◌≤◌, List, [], ◌++◌, length, set, true≢false, refl, sym, ap, ◌∙◌, subst, ⊎_elim, arith}
 use mathlib.Core.Option.{some}
 use lib.ListN.{get_elem?}
 use Rattle.atomic_table.proofs.Lists.{at_set, set_else}
@@ -16,7 +16,7 @@ use Rattle.pm_bank.proofs.MergeLemmas.{moves}
 use Rattle.pm_bank.proofs.CountLemmas.{spread_nil, spread_append}
 use Rattle.pm_bank.proofs.TellLemmas.{IsStill, tells_stay}
 use Rattle.pm_bank.proofs.TotalLemmas.{total_moves}
-use Rattle.pm_bank.proofs.StayLemmas.{gates_stay, cells_stay, merged_stays}
+use Rattle.pm_bank.proofs.StayLemmas.{gates_stay, cells_stay}
 
 module _ (slots : ℕ) (words : List ℕ) (views : List View) (k : Kept slots words views) (id : ℕ) (x : Numbers) (es : List Entry) (told : List Part) (taken : List Taken) (none_late : IsSettled x) (here_is : get_elem? views id ≡ some (keeping x es told taken)) where
   abbrev p : Phase

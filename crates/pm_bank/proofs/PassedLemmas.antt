@@ -3,7 +3,6 @@ use Rattle.std.proofs.Common.{◌≡◌, ℕ, ◌+◌, ◌-◌, ◌≤◌, List,
 use Rattle.atomic_table.specs.Table.{Me}
 use Rattle.pm_bank.specs.declared.view.View.{View}
 use Rattle.pm_bank.specs.declared.view.Hit.{Hit}
-use Rattle.pm_bank.specs.declared.view.Entry.{Entry}
 use Rattle.pm_bank.specs.Entries.{stamped}
 use Rattle.pm_bank.specs.Steps.{IsPass, passing}
 use Rattle.pm_bank.proofs.FoldLemmas.{length-stamped}

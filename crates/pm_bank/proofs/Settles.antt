@@ -1,5 +1,5 @@
 -- The load after a join keeps the rule, and tells what the keeper knows once it is alone.
-use Rattle.std.proofs.Common.{◌≡◌, ◌≢◌, ℕ, suc, ◌+◌, ◌-◌, ◌<◌, ◌≤◌, List, [], length, set, get_or, All, Bool, true, false, true≢false, refl, sym, ap, ◌∙◌, arith}
+use Rattle.std.proofs.Common.{◌≡◌, ◌≢◌, ℕ, List, [], set, get_or, Bool, true, false, true≢false, refl, sym, ap, ◌∙◌, arith}
 use mathlib.Core.Option.{some}
 use lib.ListN.{get_elem?}
 use Rattle.pm_meas.specs.Cell.{cell_of}
@@ -8,8 +8,8 @@ use Rattle.pm_bank.specs.declared.view.Numbers.{Numbers}
 use Rattle.pm_bank.specs.declared.view.Entry.{Entry}
 use Rattle.pm_bank.specs.declared.view.Part.{Part}
 use Rattle.pm_bank.specs.declared.view.Taken.{Taken}
-use Rattle.pm_bank.specs.Entries.{count_in, AreUpTo, IsFoldOf}
-use Rattle.pm_bank.specs.Words.{op, exact, fold_of, word_of}
+use Rattle.pm_bank.specs.Entries.{count_in, IsFoldOf}
+use Rattle.pm_bank.specs.Words.{op, exact, fold_of}
 use Rattle.pm_bank.specs.Rule.{total, gone, here, visits, lives, quota, met, aged, part, merged, Knows, IsTaken, Kept}
 use Rattle.pm_bank.specs.Steps.{keeping, settled, Settles, IsWhole}
 use Rattle.pm_bank.proofs.FoldLemmas.{op-unit, op-comm, op-assoc, when-zero, up_to-none}

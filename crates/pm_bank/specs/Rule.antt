@@ -1,12 +1,9 @@
 -- The bank's rule: what its words and the views of all seats say of one another, between any two steps.
-use Rattle.std.specs.Prelude.{◌≡◌, ℕ, suc, ◌+◌, ◌-◌, ◌*◌, ◌/◌, ◌%◌, ◌<◌, ◌≤◌, ◌⊎◌, List, [], ◌∷◌, ◌++◌, length, slice_index, slice_index_or, true, false, min}
+use Rattle.std.specs.Prelude.{◌≡◌, ℕ, suc, ◌+◌, ◌-◌, ◌*◌, ◌%◌, ◌<◌, ◌≤◌, ◌⊎◌, List, [], ◌∷◌, length, slice_index, slice_index_or, true, false, min}
 use mathlib.Core.Option.{some}
 use lib.ListN.{get_elem?}
 use Rattle.pm_meas.specs.Cell.{cell_of}
 use Rattle.pm_bank.specs.declared.view.View.{View}
-use Rattle.pm_bank.specs.declared.view.Numbers.{Numbers}
-use Rattle.pm_bank.specs.declared.view.Entry.{Entry}
-use Rattle.pm_bank.specs.declared.view.Part.{Part}
 use Rattle.pm_bank.specs.declared.view.Taken.{Taken}
 use Rattle.pm_bank.specs.Entries.{when, count_in, AreSmall}
 use Rattle.pm_bank.specs.Words.{op, close, exact, laid, fold_of, found_at, spread, cell_word, word_of}

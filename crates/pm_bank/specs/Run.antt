@@ -1,11 +1,10 @@
 -- A run that is folded slot by slot, and what of it lies in the words.
-use Rattle.std.specs.Prelude.{◌≡◌, ℕ, suc, ◌+◌, ◌-◌, ◌*◌, ◌<◌, ◌≤◌, List, [], length, slice_index_or, take}
+use Rattle.std.specs.Prelude.{◌≡◌, ℕ, ◌-◌, ◌*◌, ◌<◌, ◌≤◌, List, [], length, slice_index_or, take}
 use Rattle.pm_meas.specs.declared.cell.Cell.{Cell}
 use Rattle.pm_meas.specs.Cell.{cell_of}
 use Rattle.pm_bank.specs.declared.view.View.{View}
 use Rattle.pm_bank.specs.declared.view.Hit.{Hit}
 use Rattle.pm_bank.specs.declared.view.Part.{Part}
-use Rattle.pm_bank.specs.declared.view.Entry.{Entry}
 use Rattle.pm_bank.specs.Entries.{cell_in}
 use Rattle.pm_bank.specs.Words.{close, run_fold, laid, found_at, word_of}
 use Rattle.pm_bank.specs.Steps.{lays, cleared, keeping}

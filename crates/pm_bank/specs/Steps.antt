@@ -1,5 +1,5 @@
 -- What each atomic step makes of the view of its seat, and what it tells.
-use Rattle.std.specs.Prelude.{Option, Some, None, ◌≡◌, ℕ, suc, ◌+◌, ◌-◌, ◌*◌, ◌/◌, ◌%◌, ◌<◌, ◌≤◌, List, [], ◌∷◌, ◌++◌, length, true, false, All, sum_by}
+use Rattle.std.specs.Prelude.{Option, Some, None, ◌≡◌, ℕ, suc, ◌+◌, ◌-◌, ◌/◌, ◌%◌, ◌<◌, ◌≤◌, List, [], ◌∷◌, ◌++◌, length, true, false, All, sum_by}
 use Rattle.atomic_table.specs.Table.{Me}
 use Rattle.pm_meas.specs.declared.cell.Cell.{Cell}
 use Rattle.pm_bank.specs.declared.view.View.{View}

@@ -1,5 +1,5 @@
 -- What contracts see of a bank, its keeper, a pass and a visit (this project's own).
-use Rattle.std.specs.Prelude.{◌≡◌, ℕ, suc, ◌+◌, ◌-◌, ◌<◌, ◌≤◌, Option, Some, None, List, ◌∷◌, [], ◌++◌, length, All, min}
+use Rattle.std.specs.Prelude.{◌≡◌, ℕ, ◌+◌, ◌-◌, ◌≤◌, Option, Some, None, List, ◌∷◌, [], ◌++◌, length, All, min}
 use Rattle.atomic_table.specs.Seated.{TableId}
 use Rattle.pm_meas.specs.declared.cell.Cell.{Cell}
 use Rattle.pm_bank.specs.declared.view.Hit.{Hit}

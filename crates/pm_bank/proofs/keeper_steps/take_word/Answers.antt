@@ -1,9 +1,9 @@
-use Rattle.std.proofs.Common.{rules, arith, ◌≡◌, ℕ, suc, ◌<◌, set, refl, sym, ap, ◌∙◌, subst}
+use Rattle.std.proofs.Common.{rules, arith, ◌≡◌, ℕ, set, refl, sym, ap, ◌∙◌, subst}
 use Rattle.std.specs.Prelude.{slice_index}
 use mathlib.Core.Option.{some}
 use lib.ListN.{get_elem?}
 use Rattle.atomic_table.specs.Table.Act.{keeps}
-use Rattle.pm_bank.specs.Words.{close, exact, fold_of, cell_word}
+use Rattle.pm_bank.specs.Words.{exact, fold_of, cell_word}
 use Rattle.pm_bank.specs.Rule.{Kept}
 use Rattle.pm_bank.specs.Steps.{keeping, cleared, TakesCell}
 use Rattle.pm_bank.proofs.Takes.{takes_cell, cell_top, cell_tells}

@@ -1,4 +1,4 @@
-use Rattle.std.proofs.Common.{◌≡◌, ◌-◌, ◌+◌, ℕ, min, ◌∙◌, subst, arith}
+use Rattle.std.proofs.Common.{◌-◌, ◌+◌, ◌∙◌, subst, arith}
 use Rattle.pm_bank.specs.Views.{KeeperView, PassView, Meets}
 use Rattle.pm_bank.proofs.MeetLemmas.{seen_keeper, older_in, meets_told}
 use Rattle.pm_bank.proofs.keeper.Keeper.meet.Goals as goal

@@ -1,4 +1,4 @@
-use Rattle.std.proofs.Common.{rules, ◌≡◌, ◌≤◌, ℕ, length, ◌-◌, sym, subst, arith}
+use Rattle.std.proofs.Common.{◌≤◌, ℕ, length, ◌-◌, sym, subst, arith}
 use Rattle.pm_bank.specs.Registering.{registered}
 use Rattle.pm_bank.specs.Steps.{IsPass}
 use Rattle.pm_bank.proofs.PassedLemmas.{pass_after}
