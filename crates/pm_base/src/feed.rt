@@ -110,6 +110,7 @@ impl Feed {
 
         // What the buffer tells is told, whatever the source does.
         ensures wanted { OnErr result (HasNoLine self.old.buffered × (self.old.ended ≡ false)) }
+        ensures open_line { OnErr result (HasNoLine self.new.buffered) }
         ensures failed { result ≡ Err FeedError.Failed → Rose (S.faults source.old) (S.faults source.new) }
         ensures later { S.faults source.old ≤ S.faults source.new }
     {

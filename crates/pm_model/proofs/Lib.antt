@@ -3,6 +3,10 @@ pub mod EventLemmas
 pub mod SlotLemmas
 pub mod ListingLemmas
 pub mod DefaultLemmas
+pub mod WholeLinesLemmas
+pub mod ReadingLemmas
+pub mod SlotTableLemmas
+pub mod SlotNamesLemmas
 pub mod TickLemmas
 pub mod HistoryLemmas
 pub mod StayLemmas

@@ -1,5 +1,5 @@
 -- The default inventory (this project's own).
-use Rattle.std.specs.Prelude.{◌≡◌, ℕ, List, [], ◌∷◌, ◌++◌, map, codes}
+use Rattle.std.specs.Prelude.{◌≡◌, ℕ, List, [], ◌∷◌, map, codes}
 use Rattle.pm_meas.specs.Def.{def_text}
 use Rattle.pm_model.specs.Inventory.{InventoryState}
 

@@ -1,11 +1,15 @@
+pub mod Inventory
 pub mod Slot
+pub mod SlotNames
+pub mod SlotTableFields
+pub mod WholeLines
 pub mod EventLine
 pub mod Event
 pub mod Crossing
-pub mod Inventory
 pub mod InventoryFields
 pub mod Default
 pub mod Reading
+pub mod ReadingLines
 pub mod Entry
 pub mod History
 pub mod Terms

@@ -1,5 +1,5 @@
 -- What the lines of an inventory add, and why a line is refused (this project's own).
-use Rattle.std.specs.Prelude.{◌≡◌, ◌≢◌, ◌⊎◌, ◌+◌, ◌<◌, ◌≤◌, ◌++◌, ℕ, List, [], ◌∷◌, length, codes, Result, Ok, Err, Some, None}
+use Rattle.std.specs.Prelude.{◌≡◌, ◌≢◌, ◌⊎◌, ◌++◌, ℕ, List, [], ◌∷◌, codes, Some, None}
 use Rattle.pm_base.specs.declared.code.Code.{Code}
 use Rattle.pm_base.specs.declared.code.Code.TheVariants as code
 use Rattle.pm_dn.specs.Tree.{add_refusal}
@@ -10,8 +10,7 @@ use Rattle.pm_meas.specs.Catalogue.{Adds, Breaks}
 use Rattle.pm_meas.specs.declared.def.Def.{Def}
 use Rattle.pm_meas.specs.declared.error.MeasError.{MeasError}
 use Rattle.pm_meas.specs.declared.error.MeasError.TheVariants as meas
-use Rattle.pm_model.specs.Inventory.{InventoryState, HasRoot, HasSlots, object_line, end_line}
-use Rattle.pm_model.specs.Default.{IsDefault}
+use Rattle.pm_model.specs.Inventory.{InventoryState, object_line}
 use Rattle.pm_model.specs.declared.line.Stop.{Stop}
 use Rattle.pm_model.specs.declared.line.Stop.TheVariants as stop
 

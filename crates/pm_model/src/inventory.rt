@@ -154,7 +154,7 @@ fn has_root(tree: &Tree) -> bool
     tree.len() > 0
 }
 
-fn has_class(tree: &Tree, object: u16, class: Class) -> bool
+pub(crate) fn has_class(tree: &Tree, object: u16, class: Class) -> bool
     requires { object < length tree.now }
     ensures { result ≡ has_path_to class (slice_index_or tree.now object []) }
 {

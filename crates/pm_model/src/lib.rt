@@ -10,6 +10,10 @@ mod law;
 mod line;
 mod listing;
 mod metric;
+mod reading;
+mod slot_entry;
+mod slot_places;
+mod slot_table;
 
 pub use entry::{Entry, Side};
 pub use event::Event;
@@ -20,6 +24,8 @@ pub use law::{
 };
 pub use line::{Stop, take_line};
 pub use metric::Metric;
+pub use reading::{InventoryError, ReadInventory, read_inventory};
+pub use slot_table::SlotTable;
 
 #[cfg(test)]
 mod tests;

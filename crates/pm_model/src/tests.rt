@@ -1,9 +1,10 @@
 //! Inventories in memory.
 
 use super::*;
-use pm_base::Code;
+use pm_base::{Code, Feed, Line, MemSource};
 use pm_dn::Tree;
-use pm_meas::Catalogue;
+use pm_meas::{Catalogue, Reduce};
+use std::alloc::{AllocError, Global};
 use std::test::Fail;
 
 const LISTING: &[u8] = b"object ManagedElement=ME1
@@ -147,5 +148,98 @@ fn as_many_as_4096_slots_are_taken(rt: HostRuntime) -> Result<(), Fail> {
             Err(code) => assert_eq!(rt; Some(code), want),
         }
     }
+    Ok(())
+}
+
+// The number and the code of the first line that is refused; none where an inventory is read.
+fn refusal(alloc: Global, bytes: &[u8]) -> Result<Option<(u64, Code)>, AllocError> {
+    let mut source = MemSource::new(alloc, bytes, &[])?;
+    let mut feed = Feed::new(alloc)?;
+    match read_inventory(alloc, &mut feed, &mut source) {
+        Ok(_) => Ok(None),
+        Err(InventoryError::Refused { line, code }) => Ok(Some((line, code))),
+        Err(_) => Err(AllocError),
+    }
+}
+
+#[test]
+fn an_inventory_is_refused_at_its_first_bad_line(rt: HostRuntime) -> Result<(), Fail> {
+    let cases: [(&[u8], Option<(u64, Code)>); 12] = [
+        (b"end", None),
+        (b"measure RRC NRCellCU CC SUM\nend\n", Some((1, Code::M1))),
+        (b"measure A.b NRCellCU CC MEAN\nend\n", Some((1, Code::M2))),
+        (
+            b"measure A.b NRCellCU CC SUM\nmeasure A.b NRCellDU SI MAX\n",
+            Some((2, Code::M3)),
+        ),
+        (b"objects x\n", Some((1, Code::I1))),
+        (b"end \n", Some((1, Code::I1))),
+        (b"object ManagedElement=ME1\nend\n", Some((2, Code::M5))),
+        (b"measure A.b NRCellCU CC SUM\nend\n", Some((2, Code::N10))),
+        (b"object ManagedElement=ME1\n\nend\n", Some((2, Code::I1))),
+        (b"", Some((1, Code::I2))),
+        (b"object ManagedElement=ME1", Some((2, Code::I2))),
+        (
+            b"measure A.b ManagedElement CC SUM\nobject ManagedElement=ME1\nend",
+            None,
+        ),
+    ];
+    for (bytes, want) in cases {
+        assert_eq!(rt; refusal(rt.alloc(), bytes)?, want, "at {bytes:?}");
+    }
+    assert_eq!(rt; refusal(rt.alloc(), &[b'e'; 2049])?, Some((1, Code::I1)));
+    Ok(())
+}
+
+#[test]
+fn an_inventory_is_read_up_to_its_end(rt: HostRuntime) -> Result<(), Fail> {
+    let mut source = MemSource::new(rt.alloc(), b"end\n12 x", &[])?;
+    let mut feed = Feed::new(rt.alloc())?;
+    let read = read_inventory(rt.alloc(), &mut feed, &mut source)?;
+    assert_eq!(rt; read.lines, 1);
+    assert_eq!(rt; read.inventory.text(rt.alloc())?.as_bytes(), LISTING);
+    assert_eq!(rt; feed.line(&mut source), Ok(Line::Whole { length: 4 }));
+
+    let mut source = MemSource::new(rt.alloc(), LISTING, &[])?;
+    let mut feed = Feed::new(rt.alloc())?;
+    let read = read_inventory(rt.alloc(), &mut feed, &mut source)?;
+    assert_eq!(rt; read.lines, 16);
+    assert_eq!(rt; read.inventory.text(rt.alloc())?.as_bytes(), LISTING);
+    Ok(())
+}
+
+#[test]
+fn a_slot_is_found_by_its_names(rt: HostRuntime) -> Result<(), Fail> {
+    let inventory = Inventory::default(rt.alloc())?;
+    let table = SlotTable::new(rt.alloc(), &inventory)?;
+    assert_eq!(rt; table.len(), 15);
+    let cases: [(&[u8], Option<u16>); 5] = [
+        (
+            b"ManagedElement=ME1,GNBCUCPFunction=1,NRCellCU=7 RRC.ConnEstabAtt.mo-Data",
+            Some(0),
+        ),
+        (
+            b"ManagedElement=ME1,GNBCUCPFunction=1,NRCellCU=8 RRC.ConnEstabAtt.mo-Data",
+            Some(1),
+        ),
+        (
+            b"ManagedElement=ME1,GNBDUFunction=1,NRCellDU=7 VS.SetupTime",
+            Some(14),
+        ),
+        (
+            b"ManagedElement=ME1,GNBDUFunction=1,NRCellDU=7 RRC.ConnMax",
+            None,
+        ),
+        (b"VS.SetupTime", None),
+    ];
+    for (names, want) in cases {
+        assert_eq!(rt; table.find(names), want, "at {names:?}");
+    }
+    assert_eq!(rt;
+        table.names(14),
+        b"ManagedElement=ME1,GNBDUFunction=1,NRCellDU=7 VS.SetupTime".as_slice()
+    );
+    assert_eq!(rt; (table.every(13), table.every(14)), (1, 3));
+    assert_eq!(rt; table.reduce(14), Reduce::Mean);
     Ok(())
 }

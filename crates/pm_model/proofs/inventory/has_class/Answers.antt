@@ -1,4 +1,4 @@
-use Rattle.std.proofs.Common.{◌≡◌, ◌∙◌, ℕ, Bool, true, false, List, [], Some, get_or, sym, rules}
+use Rattle.std.proofs.Common.{◌≡◌, ℕ, Bool, true, false, List, [], Some, get_or, sym, rules}
 use denote.Enum.Bare.{same_true, same_false, sameb}
 use Rattle.pm_base.specs.contracts.class.Class.{the_type}
 use Rattle.pm_base.specs.declared.Class.{Class}

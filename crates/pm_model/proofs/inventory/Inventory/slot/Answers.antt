@@ -1,6 +1,4 @@
-use Rattle.std.proofs.Common.{◌≡◌, ◌≤◌, ◌<◌, ◌+◌, ◌∙◌, false, true, [], length, get_or, Some, sym, ap, arith, rules}
-use Rattle.std.specs.List.{position_from}
-use Rattle.pm_dn.specs.Containment.{has_path_to}
+use Rattle.std.proofs.Common.{◌≡◌, ◌<◌, ◌+◌, ◌∙◌, false, true, length, sym, ap, arith, rules}
 use Rattle.pm_model.specs.Inventory.{InventoryState, slots, slots_of, slot_number, is_slot_of}
 use Rattle.pm_model.proofs.SlotLemmas.{position-within, slots-past, slots-none, slot-of_no_object, slot-kept}
 use Rattle.pm_model.proofs.inventory.Inventory.slot.Goals as goal
