@@ -16,3 +16,4 @@ pub mod CrossedLemmas
 pub mod DistinctLemmas
 pub mod SumLemmas
 pub mod ConservedLemmas
+pub mod BodyLemmas

@@ -1,6 +1,6 @@
 -- What the bodies of jobs and monitors say: attributes of PerfMetricJob and ThresholdMonitor of TS 28.622, in this project's own JSON.
-use Rattle.std.specs.Prelude.{ℕ, ◌&&◌, Bool, true, false, List, [], ◌∷◌, length, codes, if◌then◌else◌, nat_le, Option, Some, None, option_map, option_and_then}
-use Rattle.std.specs.List.{list_any}
+use Rattle.std.specs.Prelude.{◌≡◌, ◌≤◌, ℕ, ◌&&◌, Bool, true, false, List, [], ◌∷◌, length, codes, if◌then◌else◌, nat_le, Option, Some, None, option_map, option_and_then}
+use Rattle.std.specs.List.{list_any, AllByRecursion}
 use Rattle.std.specs.Str.{bytes_eq}
 use Rattle.serde_json.specs.Data.{Data, number, string, array, object, Items, no_items, item, Members, no_members, member, unsigned}
 use Rattle.serde_json.specs.Find.{get_member, as_object, as_array, as_str, as_number, as_u64}
@@ -253,3 +253,34 @@ job_body text = option_and_then job_of (read text)
 
 abbrev pub monitor_body : List ℕ → Option MonitorBody
 monitor_body text = option_and_then monitor_of (read text)
+
+-- ---- bodies within their ranges
+
+abbrev pub AreMetrics : List (List ℕ) → Type 0
+AreMetrics metrics = (1 ≤ length metrics) × (length metrics ≤ 64)
+
+pub record IsJobBody (body : JobBody) : Type 0 where
+  pub granularity : body.granularity ≤ 4294967295
+  pub objects : length body.objects ≤ 256
+  pub metrics : AreMetrics body.metrics
+  pub reporting : body.reporting ≤ 4294967295
+  pub roots : length body.roots ≤ 256
+
+pub record IsThreshold (threshold : Threshold) : Type 0 where
+  pub metrics : AreMetrics threshold.metrics
+  pub value : threshold.value ≤ 9007199254740991
+  pub hysteresis : threshold.hysteresis ≤ threshold.value
+
+pub record IsMonitorBody (body : MonitorBody) : Type 0 where
+  pub granularity : body.granularity ≤ 4294967295
+  pub objects : length body.objects ≤ 256
+  pub roots : length body.roots ≤ 256
+  pub least : 1 ≤ length body.thresholds
+  pub most : length body.thresholds ≤ 16
+  pub each : AllByRecursion IsThreshold body.thresholds
+
+-- The tree of a body within its ranges says that body.
+abbrev pub BodiesReadBack : Type 0
+BodiesReadBack =
+    ((body : JobBody) → IsJobBody body → job_of (job_tree body) ≡ Some body)
+    × ((body : MonitorBody) → IsMonitorBody body → monitor_of (monitor_tree body) ≡ Some body)

@@ -1,4 +1,5 @@
 //! What holds of every history, whatever its bodies ask for.
+ghost use Rattle.pm_model.specs.Body.{BodiesReadBack};
 ghost use Rattle.pm_model.specs.Conserved.{SumsConserved};
 ghost use Rattle.pm_model.specs.Laws.{CrossingsAgree, FilesDistinct, FilesGrow, NoticesGrow};
 
@@ -25,4 +26,9 @@ pub fn crossings_agree()
 /// The results of a counter in all files of a job add up to the events that are counted for it there. A law: the call does nothing.
 pub fn sums_conserved()
     ensures { SumsConserved }
+{}
+
+/// The tree of a body within its ranges says that body. A law: the call does nothing.
+pub fn bodies_read_back()
+    ensures { BodiesReadBack }
 {}

@@ -19,7 +19,9 @@ pub use entry::{Entry, Side};
 pub use event::Event;
 pub use event_line::{EventLine, read_event_line};
 pub use inventory::{InvError, Inventory, SLOTS};
-pub use law::{crossings_agree, files_distinct, files_grow, notices_grow, sums_conserved};
+pub use law::{
+    bodies_read_back, crossings_agree, files_distinct, files_grow, notices_grow, sums_conserved,
+};
 pub use line::{Stop, take_line};
 pub use metric::Metric;
 pub use reading::{InventoryError, ReadInventory, read_inventory};
