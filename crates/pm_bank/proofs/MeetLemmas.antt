@@ -7,16 +7,12 @@ use Rattle.pm_bank.specs.declared.view.Numbers.{Numbers}
 use Rattle.pm_bank.specs.declared.view.Entry.{Entry}
 use Rattle.pm_bank.specs.Entries.{AreUpTo}
 use Rattle.pm_bank.specs.Views.{KeeperView, Meets}
-use Rattle.pm_bank.specs.Steps.{IsKeeping, IsPass, Settles, meets}
+use Rattle.pm_bank.specs.Steps.{IsKeeping, IsPass, Settles, meets, keeper_view}
 
 -- what holds of all joined entries holds of the later ones
 pub up_to-later : (e : ℕ) (xs ys : List Entry) → AreUpTo e (xs ++ ys) → AreUpTo e ys
 up_to-later e [] ys all = all
 up_to-later e (x ∷ xs) ys all = up_to-later e xs ys (λ k d lt. all (suc k) d (omega (arith, lt)))
-
--- the keeper's view, of its numbers and its seat
-abbrev pub seen_keeper : TableId → Me (Unit {0}) View → ℕ → ℕ → ℕ → ℕ → ℕ → ℕ → Option ℕ → KeeperView
-seen_keeper id me workers epoch out quotas older met pending = record { bank = id; workers = workers; epoch = epoch; out = out; quotas = quotas; older = older; granted = quotas + met; met = me.0.entries; pending = pending; taken = me.0.taken; looks = me.0.numbers.looks; seen = me.0.numbers.seen }
 
 module _ (id id' pid : TableId) (me mid end pass : Me (Unit {0}) View) (workers epoch out quotas older met since quota left : ℕ) (pending : Option ℕ) (kept : IsKeeping me workers epoch out quotas older met pending) (of : IsPass pass since quota left) (same_id : id' ≡ id) (joined : mid ≡ (meets me.0 pass.0, me.1)) (settles : Settles mid.0 end.0) where
   end_is : end.0.entries ≡ me.0.entries ++ pass.0.entries
@@ -48,7 +44,7 @@ module _ (id id' pid : TableId) (me mid end pass : Me (Unit {0}) View) (workers 
       let l = settles.older_less in let a = ap (λ (x : Numbers). x.late_older) numbers_are in let b = ap (λ (x : Numbers). x.older) numbers_are in let c = kept.older_is in
       let e = kept.epoch_is in let h : pass.0.lives ≡ 1 = ap (λ (v : View). v.lives) of.is in let s : pass.0.since ≡ since = ap (λ (v : View). v.since) of.is in omega (arith, l, a, b, c, e, h, s)
 
-  pub meets_told : (rest : ℕ) → rest + min 1 (epoch - since) ≡ older → Meets (seen_keeper id me workers epoch out quotas older met pending) (record { bank = pid; since = since; quota = quota; entries = pass.0.entries }) (seen_keeper id' end workers epoch (out - 1) (quotas - quota) rest (met + (quota - left)) pending)
+  pub meets_told : (rest : ℕ) → rest + min 1 (epoch - since) ≡ older → Meets (keeper_view id me workers epoch out quotas older met pending) (record { bank = pid; since = since; quota = quota; entries = pass.0.entries }) (keeper_view id' end workers epoch (out - 1) (quotas - quota) rest (met + (quota - left)) pending)
   meets_told rest rest_is =
       record {
         out_less = let o = one_out in omega (arith, o);

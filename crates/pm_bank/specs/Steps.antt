@@ -1,5 +1,6 @@
 -- What each atomic step makes of the view of its seat, and what it tells.
 use Rattle.std.specs.Prelude.{Option, Some, None, ◌≡◌, ℕ, suc, ◌+◌, ◌-◌, ◌/◌, ◌%◌, ◌<◌, ◌≤◌, List, [], ◌∷◌, ◌++◌, length, true, false, All, sum_by}
+use Rattle.atomic_table.specs.Seated.{TableId}
 use Rattle.atomic_table.specs.Table.{Me}
 use Rattle.pm_meas.specs.declared.cell.Cell.{Cell}
 use Rattle.pm_bank.specs.declared.view.View.{View}
@@ -10,6 +11,7 @@ use Rattle.pm_bank.specs.declared.view.Entry.{Entry}
 use Rattle.pm_bank.specs.declared.view.Taken.{Taken}
 use Rattle.pm_bank.specs.Entries.{when, stamped, count_in, AreSmall, AreUpTo, IsFoldOf}
 use Rattle.pm_bank.specs.Words.{exact, fold_of}
+use Rattle.pm_bank.specs.Views.{KeeperView}
 use Rattle.pm_bank.specs.Rule.{aged}
 
 abbrev pub zeros : Numbers
@@ -170,3 +172,7 @@ pub record IsKeeping (me : Me (Unit {0}) View) (workers epoch out quotas older m
   pub up_to : AreUpTo epoch me.0.entries
   pub small : AreSmall me.0.entries
   pub whole : out ≡ 0 → IsWhole me.0
+
+-- what contracts see of it
+abbrev pub keeper_view : TableId → Me (Unit {0}) View → ℕ → ℕ → ℕ → ℕ → ℕ → ℕ → Option ℕ → KeeperView
+keeper_view id me workers epoch out quotas older met pending = record { bank = id; workers = workers; epoch = epoch; out = out; quotas = quotas; older = older; granted = quotas + met; met = me.0.entries; pending = pending; taken = me.0.taken; looks = me.0.numbers.looks; seen = me.0.numbers.seen }

@@ -9,6 +9,12 @@ use crate::plays::Counters;
 use std::alloc::{AllocError, Global};
 use std::marker::Model;
 
+/// The most slots of a bank.
+pub const MAX_SLOTS: u32 = 4096;
+
+/// The most passes that may be out at a time.
+pub const MAX_WORKERS: u32 = 64;
+
 /// Counters for each slot, twice: one half serves the even epochs, the other the odd ones.
 #[derive(Drop)]
 pub struct Bank {
@@ -31,13 +37,13 @@ impl Bank {
     /// A bank with its keeper, at epoch 0 and with no event. At most so many `workers` have a pass at a time.
     pub fn new(alloc: Global, slots: u32, workers: u32) -> Result<(Bank, Keeper), BankError>
         ensures made { IfOk result (λ r. (r.0.slots ≡ slots) × (r.1 ≡ new_keeper_view r.0.id workers)) }
-        ensures b1 { (result ≡ Err BankError.B1) ↔ ((slots ≡ 0) ⊎ (4096 < slots)) }
-        ensures b2 { (result ≡ Err BankError.B2) ↔ ((0 < slots) × (slots ≤ 4096) × ((workers ≡ 0) ⊎ (64 < workers))) }
+        ensures b1 { (result ≡ Err BankError.B1) ↔ ((slots ≡ 0) ⊎ (MAX_SLOTS < slots)) }
+        ensures b2 { (result ≡ Err BankError.B2) ↔ ((0 < slots) × (slots ≤ MAX_SLOTS) × ((workers ≡ 0) ⊎ (MAX_WORKERS < workers))) }
     {
-        if slots == 0 || slots > 4096 {
+        if slots == 0 || slots > MAX_SLOTS {
             return Err(BankError::B1);
         }
-        if workers == 0 || workers > 64 {
+        if workers == 0 || workers > MAX_WORKERS {
             return Err(BankError::B2);
         }
         let Ok(words) = blank_words(alloc, slots) else {

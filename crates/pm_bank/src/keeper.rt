@@ -17,8 +17,8 @@ use crate::view::View;
 use atomic_table::Seat;
 use std::marker::{Brand, Model};
 
-/// The greatest sum of what is granted at a time.
-const MAX_GRANTED: u32 = 1_073_741_824;
+/// The greatest sum of what is granted at a time, and so of the events of an epoch.
+pub const MAX_GRANTED: u32 = 1_073_741_824;
 
 /// The one who hires passes, ends epochs and takes their cells.
 #[derive(Drop)]
@@ -34,13 +34,12 @@ pub struct Keeper {
 }
 
 impl Model for Keeper {
-    ghost use Rattle.std.specs.Prelude.{◌+◌};
     ghost use Rattle.pm_bank.specs.Views.{KeeperView};
-    ghost use Rattle.pm_bank.specs.Steps.{IsKeeping};
+    ghost use Rattle.pm_bank.specs.Steps.{IsKeeping, keeper_view};
 
     ghost Value = { KeeperView };
 
-    ghost view = { λ k. record { bank = k.seat.table_id; workers = k.workers; epoch = k.epoch; out = k.out; quotas = k.quotas; older = k.older; granted = k.quotas + k.met; met = k.seat.me.0.entries; pending = k.pending; taken = k.seat.me.0.taken; looks = k.seat.me.0.numbers.looks; seen = k.seat.me.0.numbers.seen } };
+    ghost view = { λ k. keeper_view k.seat.table_id k.seat.me k.workers k.epoch k.out k.quotas k.older k.met k.pending };
 
     ghost invariant = { λ k. IsKeeping k.seat.me k.workers k.epoch k.out k.quotas k.older k.met k.pending };
 }
@@ -94,7 +93,7 @@ impl Keeper {
         ensures hired { IfOk result (λ pass. (self.new ≡ with_pass self.old quota) × (pass ≡ fresh_pass self.old quota)) }
         ensures refused { OnErr result (self.new ≡ self.old) }
         ensures b3 { (result ≡ Err HireError.B3) ↔ (self.old.out ≡ self.old.workers) }
-        ensures b4 { (result ≡ Err HireError.B4) ↔ ((self.old.out ≢ self.old.workers) × (1073741824 < self.old.granted + quota)) }
+        ensures b4 { (result ≡ Err HireError.B4) ↔ ((self.old.out ≢ self.old.workers) × (MAX_GRANTED < self.old.granted + quota)) }
     {
         if self.out == self.workers {
             return Err(HireError::B3);

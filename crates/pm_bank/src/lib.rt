@@ -1,4 +1,5 @@
-//! Counters that several threads share.
+//! Counters that several threads share: each event is fixed to an epoch by one atomic step, and no call waits. The README has
+//! the words, the atomic steps and what is not promised.
 #![tactic(auto)]
 
 mod bank;
@@ -14,13 +15,13 @@ mod taking;
 mod view;
 mod visit;
 
-pub use bank::Bank;
+pub use bank::{Bank, MAX_SLOTS, MAX_WORKERS};
 pub use error::{BankError, Draining, HireError, Spent};
-pub use keeper::{Cut, Keeper};
+pub use keeper::{Cut, Keeper, MAX_GRANTED};
 pub use pass::Pass;
 pub use pm_meas::Tally;
 pub use run::Scratch;
-pub use view::{Entry, Hit, Numbers, Part, Taken, View};
+pub use view::{Entry, Hit, Taken};
 pub use visit::Visit;
 
 #[cfg(test)]

@@ -58,7 +58,8 @@ impl Pass {
         Ok(epoch)
     }
 
-    /// Counts a run of events, all in one epoch, and answers it. `scratch` is of as many slots as the bank.
+    /// Counts a run of events, all in one epoch, and answers it; a run of none is answered with the epoch that is open.
+    /// `scratch` is of as many slots as the bank.
     pub fn count_run(
         &mut self,
         bank: &Bank,
