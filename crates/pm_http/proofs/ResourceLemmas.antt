@@ -6,7 +6,7 @@ use Rattle.matchit.specs.Router.{RouteOf}
 use Rattle.matchit.specs.Seek.{first}
 use Rattle.pm_http.specs.declared.kind.Kind.{Kind}
 use Rattle.pm_http.specs.declared.kind.Kind.TheVariants.{Job, Monitor, Subscription, Files, File, Events}
-use Rattle.pm_http.specs.Resource.{IsPart, IsPartOf, IsPathOf, front_of, table, shape}
+use Rattle.pm_http.specs.Resource.{IsPart, IsPathOf, table, shape}
 use Rattle.pm_http.proofs.PatternLemmas.{Fits, ends, byte, part, IsSimple, AllSimple, AllBytes, In, seek_sound, seek_complete}
 
 abbrev pub Fits8 : ℕ → Type 0

@@ -1,12 +1,9 @@
 -- What one piece more tells of the head.
-use Rattle.std.proofs.Common.{◌≡◌, ◌≢◌, ℕ, ◌+◌, ◌-◌, ◌<◌, ◌≤◌, inl, inr, List, [], ◌∷◌, ◌++◌, length, take, drop, map, refl, sym, ap, ◌∙◌, subst, arith, append_assoc, append-nil, length-append, length-take-le, take_all, min}
-use Rattle.std.specs.List.{All}
+use Rattle.std.proofs.Common.{◌≡◌, ℕ, ◌+◌, ◌-◌, ◌<◌, ◌≤◌, inl, inr, List, [], ◌∷◌, ◌++◌, length, take, drop, refl, sym, ap, ◌∙◌, subst, arith, append_assoc, append-nil, length-append, take_all}
 use Rattle.std.proofs.lemmas.Bool.{cases_lt}
-use Rattle.std.proofs.lemmas.List.Elements.{All-cons}
 use Rattle.std.proofs.lemmas.List.{take-append-le, length-take}
 use Rattle.std.proofs.Math.Seq.{take-append-add}
 use Rattle.httparse.specs.Grammar.{RequestHead, print_request, ReadsRequest, HasNoRequest, NeverHasRequest}
-use Rattle.httparse.specs.Spans.{IsRequestWithin, IsRequestAt}
 use Rattle.httparse.specs.declared.spans.HeaderSpan.{HeaderSpan}
 use Rattle.httparse.specs.declared.spans.RequestSpans.{RequestSpans}
 use Rattle.httparse.proofs.GrammarLemmas.{ReadsRequest-append}
@@ -15,8 +12,8 @@ use Rattle.pm_http.specs.declared.piece.Piece.{Piece}
 use Rattle.pm_http.specs.declared.piece.Piece.TheVariants.{Blank, Line, Part, End}
 use Rattle.pm_http.specs.declared.sight.Sight.TheVariants as sight
 use Rattle.pm_http.specs.declared.head_end.HeadEnd.TheVariants as ends
-use Rattle.pm_http.specs.Stream.{looked_at, HasHead}
-use Rattle.pm_http.specs.Piece.{IsPiece, IsSight, IsParsed, IsOpen, Moves, Gathers, Grows, IsGathered, EndsHead}
+use Rattle.pm_http.specs.Stream.{looked_at}
+use Rattle.pm_http.specs.Piece.{IsSight, IsParsed, IsOpen, Moves, Gathers, Grows, EndsHead}
 use Rattle.pm_http.proofs.HeadLemmas.{whole_from_front, never_grows}
 use Rattle.pm_http.proofs.GatherLemmas.{no_head-nothing, no_head-part, no_head-line, head_ends-line}
 

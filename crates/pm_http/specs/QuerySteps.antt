@@ -1,5 +1,5 @@
 -- How a query is read pair by pair.
-use Rattle.std.specs.Prelude.{ℕ, Bool, List, [], ◌∷◌, codes, bytes_eq, if◌then◌else◌, Option, Some, None}
+use Rattle.std.specs.Prelude.{ℕ, List, [], ◌∷◌, codes, bytes_eq, if◌then◌else◌, Option, Some, None}
 use Rattle.std.specs.Option.{option_map}
 use Rattle.pm_http.specs.declared.query.Query.{Query}
 use Rattle.pm_http.specs.Query.{read_type, read_time}

@@ -1,5 +1,5 @@
 -- The text of a reply (RFC 9112, sections 4 to 6; its fields and bodies are this project's own).
-use Rattle.std.specs.Prelude.{◌==◌, ◌≡◌, ◌≤◌, ◌<◌, ℕ, Bool, true, false, List, [], ◌++◌, length, take, codes, decimal, unwrap_or, if◌then◌else◌, Option, Some, None, Result, Ok, Err}
+use Rattle.std.specs.Prelude.{◌==◌, ◌≡◌, ◌≤◌, ℕ, Bool, List, [], ◌++◌, length, take, codes, decimal, unwrap_or, if◌then◌else◌, Option, Some, None, Result, Ok, Err}
 use Rattle.http.specs.StatusCode.{reason_phrase}
 use Rattle.pm_base.specs.declared.code.Code.{Code}
 use Rattle.pm_base.specs.declared.code.Code.TheVariants.{E1, E2, E3, E4, H6}

@@ -1,5 +1,5 @@
 -- Which request takes which route (this project's own).
-use Rattle.std.specs.Prelude.{◌≡◌, ◌≢◌, ℕ, List, ◌++◌, codes, Option, Some, None, Result, Ok, Err, IsUtf8}
+use Rattle.std.specs.Prelude.{◌≡◌, ℕ, List, ◌++◌, codes, Option, Some, None, Result, Ok, Err, IsUtf8}
 use Rattle.pm_http.specs.declared.kind.Kind.{Kind}
 use Rattle.pm_http.specs.declared.kind.Kind.TheVariants.{Job, Monitor, Subscription, Files, File, Events}
 use Rattle.pm_http.specs.declared.method.Method.{Method}
@@ -8,7 +8,6 @@ use Rattle.pm_http.specs.declared.routes.Route.{Route}
 use Rattle.pm_http.specs.declared.routes.Route.TheVariants.{GetJob, PutJob, PatchJob, DeleteJob, GetMonitor, PutMonitor, PatchMonitor, DeleteMonitor, PutSubscription, DeleteSubscription, GetFiles, GetFile, PostEvents}
 use Rattle.pm_http.specs.declared.error.RouteError.{RouteError}
 use Rattle.pm_http.specs.declared.error.RouteError.TheVariants.{H5, H6, Memory}
-use Rattle.pm_http.specs.declared.request.Request.{Request}
 use Rattle.pm_http.specs.Resource.{IsPathOf, IsPartOf, front_of}
 use Rattle.pm_http.specs.Target.{path_of, query_of}
 

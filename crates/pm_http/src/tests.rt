@@ -376,3 +376,49 @@ fn a_query_names_each_of_three_at_most_once(rt: HostRuntime) -> Result<(), Fail>
     }
     Ok(())
 }
+
+// The length of the first request of the bytes, found line by line. Of a length it knows one digit.
+fn plain_length(bytes: &[u8]) -> usize {
+    let mut head: usize = 0;
+    let mut body: usize = 0;
+    let mut begun = false;
+    for line in bytes.split(|byte| *byte == b'\n') {
+        head = head.saturating_add(line.len()).saturating_add(1);
+        if let Some([digit, ..]) = line.strip_prefix(b"Content-Length: ".as_slice()) {
+            body = usize::from(digit.saturating_sub(b'0'));
+        }
+        if 2 <= line.len() {
+            begun = true;
+        } else if begun {
+            return head.saturating_add(body);
+        }
+    }
+    head
+}
+
+// Whether the requests of the stream end where the plain reading says, read so many bytes at a time.
+fn ends_as_plain(alloc: Global, most: usize) -> Result<bool, AllocError> {
+    let mut source = Slow { left: STREAM, most };
+    let mut feed = Feed::new(alloc)?;
+    let mut left = STREAM;
+    for _ in 0..2 {
+        let before = feed.given();
+        let Ok(Next::Request(_)) = next_request(alloc, &mut feed, &mut source) else {
+            return Ok(false);
+        };
+        let length = plain_length(left);
+        if feed.given().wrapping_sub(before) != length as u64 || left.len() < length {
+            return Ok(false);
+        }
+        left = &left[length..];
+    }
+    Ok(left == b"\r\n".as_slice())
+}
+
+#[test]
+fn requests_end_as_a_plain_reading_says(rt: HostRuntime) -> Result<(), Fail> {
+    for most in 1..STREAM.len() {
+        assert!(rt; ends_as_plain(rt.alloc(), most)?, "at {most}");
+    }
+    Ok(())
+}

@@ -1,4 +1,4 @@
-use Rattle.pm_http.specs.declared.piece.Piece.TheVariants.{Blank, Line, Part, End}
+use Rattle.pm_http.specs.declared.piece.Piece.TheVariants.{Blank, Line, Part}
 use Rattle.pm_http.proofs.head_end.judge.Goals as goal
 
 pub returns-in-Line-clause-steps : goal.returns-in-Line-clause-steps

@@ -1,4 +1,4 @@
-use Rattle.std.proofs.Common.{◌≡◌, ◌<◌, length, vec_len, ap, sym, arith, refl}
+use Rattle.std.proofs.Common.{length, ap, arith, refl}
 use Rattle.pm_http.proofs.StepLemmas.{first_piece}
 use Rattle.pm_http.proofs.head_end.read_head.Goals as goal
 

@@ -1,5 +1,3 @@
-use Rattle.std.proofs.Common.{◌≡◌, subst}
-use Rattle.pm_http.specs.Route.{IsResource}
 use Rattle.pm_http.proofs.routing.route.Goals as goal
 
 pub returns-in-None : goal.returns-in-None
