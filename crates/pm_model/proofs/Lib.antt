@@ -7,3 +7,5 @@ pub mod WholeLinesLemmas
 pub mod ReadingLemmas
 pub mod SlotTableLemmas
 pub mod DistinctLemmas
+pub mod LineLawLemmas
+pub mod ReadingLawLemmas

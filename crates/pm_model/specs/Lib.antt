@@ -10,6 +10,7 @@ pub mod InventoryFields
 pub mod Default
 pub mod Reading
 pub mod ReadingLines
+pub mod ReadingLaw
 pub use Rattle.pm_dn.specs.Tree
 pub use Rattle.pm_dn.specs.Containment
 pub use Rattle.pm_meas.specs.Def
