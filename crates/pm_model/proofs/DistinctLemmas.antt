@@ -1,194 +1,172 @@
--- No two slots of an inventory have the same names, and there are as many as it has slots.
-use Rattle.std.proofs.Common.{◌≡◌, ◌≢◌, ◌+◌, ◌<◌, ℕ, zero, suc, Bool, true, false, cond, List, [], ◌∷◌, ◌++◌, length, drop, map, get_or, ◌&&◌, Option, Some, None, inl, inr, refl, sym, ◌∙◌, ap, subst, arith, eqb, eq-eqb}
-use Rattle.std.specs.List.{AllPairs, All, flat_map, filter, enumerate_from, position_from}
+-- The files of a history are distinct by end and id.
+use Rattle.std.proofs.Common.{◌≡◌, ℕ, zero, suc, ◌+◌, ◌*◌, ◌≤◌, Bool, true, false, not, cond, List, [], ◌∷◌, ◌++◌, filter, Option, Some, None, refl, sym, ap, ◌∙◌, arith}
+use Rattle.std.specs.List.{flat_map, AllByRecursion}
 use Rattle.std.specs.Str.{bytes_eq}
-use Rattle.std.specs.Char.{is_ascii_alphanumeric}
-use Rattle.std.proofs.lemmas.Bool.{cases_lt, false_from_ne_true}
-use Rattle.std.proofs.lemmas.Bool.Decides.{nat_tests}
-use Rattle.std.proofs.lemmas.Slice.Eq.{bytes_eq-Decides}
-use Rattle.std.proofs.lemmas.List.{length-map, length-append, map-append, get_or-map, get_or_past, append_cancel_right}
-use Rattle.std.proofs.lemmas.List.Elements.{All-cons, All-head, All-tail, All-nil, All-append, All-weaker, All-map}
-use Rattle.std.proofs.lemmas.List.FromFn.{length-enumerate_from}
-use Rattle.std.proofs.lemmas.List.Kept.{AllPairs-cons, AllPairs-filter}
-use Rattle.pm_base.specs.declared.Class.{Class}
-use Rattle.pm_base.specs.Names.{is_name_char}
-use Rattle.pm_dn.specs.Name.{Part, IsPart, part_text, name_text}
-use Rattle.pm_dn.specs.Refusal.{name_refusal}
-use Rattle.pm_dn.specs.Containment.{has_path_to}
-use Rattle.pm_dn.specs.Tree.{IsTree, objects_of}
-use Rattle.pm_dn.proofs.NameLemmas.{IsNameOf-name_of}
-use Rattle.pm_dn.proofs.TreeLemmas.{StandsAt-alone, IsTree-let_in}
-use Rattle.pm_meas.specs.declared.def.Def.{Def}
-use Rattle.pm_meas.specs.Catalogue.{names_of}
-use Rattle.pm_model.specs.Inventory.{slots_of, slots_of_metric, key_of}
-use Rattle.pm_model.specs.Slot.{Slot, slot_place, slot_of, slots_of_def}
-use Rattle.pm_model.specs.SlotNames.{slot_names, names_place, HasNoSpace, AreDistinct, AreSpaceless}
+use Rattle.std.specs.Ordering.{ordering_reverse, nat_cmp, match_ordering}
+use Rattle.std.specs.declared.cmp.Ordering.{Ordering}
+use Rattle.std.specs.declared.cmp.Ordering.TheVariants.{Less, Equal, Greater}
+use Rattle.std.specs.Cmp.Lexicographic.{slice_cmp}
+use Rattle.std.proofs.lemmas.Cmp.{nat_list_cmp_total}
+use Rattle.pm_base.specs.Moment.{tick_of}
+use Rattle.pm_model.specs.declared.entry.Side.{Side}
+use Rattle.pm_model.specs.declared.entry.Side.TheVariants.{Job, Monitor}
+use Rattle.pm_model.specs.declared.entry.Entry.{Entry}
+use Rattle.pm_model.specs.declared.entry.Entry.TheVariants.{JobMade, JobDeleted, MonitorMade, MonitorDeleted}
+use Rattle.pm_model.specs.History.{History, Start, ◌▷◌, before, last_moment}
+use Rattle.pm_model.specs.Terms.{Terms}
+use Rattle.pm_model.specs.Ticks.{behind}
+use Rattle.pm_model.specs.Standing.{Standing, making_of, with_id, ids_next, ids_after, standing_after}
+use Rattle.pm_model.specs.Files.{Report, report_of, is_due, file_of, file_at, files_at, files_of}
+use Rattle.pm_model.specs.Laws.{AreApart, AreDistinct}
 
-differs : (b c : ℕ) → eqb b c ≡ false → b ≢ c
-differs b c fails same = let meets : eqb b c ≡ true = eq-eqb b c same in cc
+-- ---- of each element
 
-class-fails : (b : ℕ) → is_ascii_alphanumeric b ≡ true → eqb b 32 ≡ false
-class-fails b is = grind (arith, nat_tests)
+each-append : {A : Type 0} (P : A → Type 0) (xs ys : List A) → AllByRecursion P xs → AllByRecursion P ys → AllByRecursion P (xs ++ ys)
+each-append P [] ys one other = other
+each-append P (x ∷ xs) ys one other = (one.0, each-append P xs ys one.1 other)
 
-id-fails : (b : ℕ) → is_name_char b ≡ true → eqb b 32 ≡ false
-id-fails b is = grind (arith, nat_tests)
+each-map : {A : Type 0} (P Q : A → Type 0) (xs : List A) → ((x : A) → P x → Q x) → AllByRecursion P xs → AllByRecursion Q xs
+each-map P Q [] f all = tt
+each-map P Q (x ∷ xs) f all = (f x all.0, each-map P Q xs f all.1)
 
-part_text-lacks-space : (part : Part) → IsPart part → HasNoSpace (part_text part)
-part_text-lacks-space part is =
-    All-append (λ b. b ≢ 32) part.class (61 ∷ part.id)
-    (All-weaker (λ b. is_ascii_alphanumeric b ≡ true) (λ b. b ≢ 32) (λ b passes. differs b 32 (class-fails b passes)) part.class is.class_is.alphabet)
-    (All-cons (λ b. b ≢ 32) 61 part.id (λ same. omega (arith, same)) (All-weaker (λ b. is_name_char b ≡ true) (λ b. b ≢ 32) (λ b passes. differs b 32 (id-fails b passes)) part.id is.id_is.alphabet))
+each-filter : {A : Type 0} (P : A → Type 0) (p : A → Bool) (xs : List A) → AllByRecursion P xs → AllByRecursion P (filter p xs)
+each-filter P p [] all = tt
+each-filter P p (x ∷ xs) all = by (p x) (each-filter P p xs all.1)
+  where
+    by : (b : Bool) → AllByRecursion P (filter p xs) → AllByRecursion P (cond b (x ∷ filter p xs) (filter p xs))
+    by true rest = (all.0, rest)
+    by false rest = rest
 
-name_text-lacks-space : (name : List Part) → All IsPart name → HasNoSpace (name_text name)
-name_text-lacks-space [] parts = All-nil (λ b. b ≢ 32)
-name_text-lacks-space (p ∷ []) parts = part_text-lacks-space p (All-head IsPart p [] parts)
-name_text-lacks-space (p ∷ q ∷ name) parts =
-    All-append (λ b. b ≢ 32) (part_text p) (44 ∷ name_text (q ∷ name)) (part_text-lacks-space p (All-head IsPart p (q ∷ name) parts))
-    (All-cons (λ b. b ≢ 32) 44 (name_text (q ∷ name)) (λ same. omega (arith, same)) (name_text-lacks-space (q ∷ name) (All-tail IsPart p (q ∷ name) parts)))
+-- ---- ids stand in byte order, each once
 
--- the name of an object has no space
-pub name-lacks-space : (text : List ℕ) → name_refusal text ≡ None → HasNoSpace text
-name-lacks-space text none = let is = IsNameOf-name_of text none in subst HasNoSpace is.text (name_text-lacks-space _ is.parts)
+abbrev IsSorted : List (List ℕ) → Type 0
+IsSorted [] = Unit {0}
+IsSorted (i ∷ is) = AllByRecursion (λ j. slice_cmp nat_cmp i j ≡ Less) is × IsSorted is
 
-pub object-lacks-space : (tree : List (List ℕ)) (object : ℕ) → IsTree tree → HasNoSpace (get_or tree object [])
-object-lacks-space tree object is = elim (cases_lt object (length tree)) [
-  | inl lt ↦ name-lacks-space (get_or tree object []) (IsTree-let_in tree object is lt).named
-  | inr past ↦ subst HasNoSpace (sym (get_or_past tree object [] (omega (arith, past)))) (All-nil (λ b. b ≢ 32))
-]
+less-irrefl : (i : List ℕ) → slice_cmp nat_cmp i i ≡ Less → ⊥
+less-irrefl i less =
+    let turned : Less ≡ Greater = sym less ∙ (nat_list_cmp_total.antisymm i i ∙ ap ordering_reverse less) in
+    absurd cc
 
--- texts without a space are told apart from what stands behind one
-pub names-apart : (object other metric second : List ℕ) → HasNoSpace object → HasNoSpace other → object ++ 32 ∷ metric ≡ other ++ 32 ∷ second → (object ≡ other) × (metric ≡ second)
-names-apart [] [] metric second lacks lacks' same = (refl, ap (drop 1) same)
-names-apart [] (b ∷ other) metric second lacks lacks' same = absurd (All-head (λ x. x ≢ 32) b other lacks' (sym (ap (λ (l : List ℕ). get_or l 0 0) same)))
-names-apart (a ∷ object) [] metric second lacks lacks' same = absurd (All-head (λ x. x ≢ 32) a object lacks (ap (λ (l : List ℕ). get_or l 0 0) same))
-names-apart (a ∷ object) (b ∷ other) metric second lacks lacks' same =
-    let is : a ≡ b = ap (λ (l : List ℕ). get_or l 0 0) same in
-    let rest = names-apart object other metric second (All-tail (λ x. x ≢ 32) a object lacks) (All-tail (λ x. x ≢ 32) b other lacks') (ap (drop 1) same) in
-    (ap (λ (x : ℕ). x ∷ object) is ∙ ap (λ (l : List ℕ). b ∷ l) rest.0, rest.1)
+with_id-each : (P : List ℕ → Type 0) (id : List ℕ) (is : List (List ℕ)) → P id → AllByRecursion P is → AllByRecursion P (with_id id is)
+with_id-each P id [] one all = (one, tt)
+with_id-each P id (i ∷ is) one all = by (slice_cmp nat_cmp id i) (with_id-each P id is one all.1)
+  where
+    by : (o : Ordering) → AllByRecursion P (with_id id is) → AllByRecursion P (match_ordering o (id ∷ (i ∷ is)) (i ∷ is) (i ∷ with_id id is))
+    by Less rest = (one, all)
+    by Equal rest = all
+    by Greater rest = (all.0, rest)
 
-AllPairs-map : {X Y : Type 0} (R : Y → Y → Type 0) (f : X → Y) (xs : List X) → AllPairs (λ a b. R (f a) (f b)) xs → AllPairs R (map f xs)
-AllPairs-map R f [] all i j d lt within = absurd (omega (arith, within))
-AllPairs-map R f (x ∷ xs) all i j d lt within =
-    let last : j < length (x ∷ xs) = omega (arith, within, length-map (x ∷ xs) f) in
-    let first : i < length (x ∷ xs) = omega (arith, lt, last) in
-    subst (λ a. R a (get_or (map f (x ∷ xs)) j d)) (sym (get_or-map f (x ∷ xs) i x d first))
-    (subst (λ b. R (f (get_or (x ∷ xs) i x)) b) (sym (get_or-map f (x ∷ xs) j x d last)) (all i j x lt last))
+with_id-sorted : (id : List ℕ) (is : List (List ℕ)) → IsSorted is → IsSorted (with_id id is)
+with_id-sorted id [] sorted = (tt, tt)
+with_id-sorted id (i ∷ is) sorted = by (slice_cmp nat_cmp id i) refl (with_id-sorted id is sorted.1)
+  where
+    by : (o : Ordering) → slice_cmp nat_cmp id i ≡ o → IsSorted (with_id id is) → IsSorted (match_ordering o (id ∷ (i ∷ is)) (i ∷ is) (i ∷ with_id id is))
+    by Less less rest = ((less, each-map (λ j. slice_cmp nat_cmp i j ≡ Less) (λ j. slice_cmp nat_cmp id j ≡ Less) is (λ j later. nat_list_cmp_total.trans id i j less later) sorted.0), sorted)
+    by Equal same rest = sorted
+    by Greater greater rest = (with_id-each (λ j. slice_cmp nat_cmp i j ≡ Less) id is (nat_list_cmp_total.antisymm i id ∙ ap ordering_reverse greater) sorted.0, rest)
 
-AllPairs-append : {X : Type 0} (R : X → X → Type 0) (xs ys : List X) → AllPairs R xs → AllPairs R ys → All (λ x. All (R x) ys) xs → AllPairs R (xs ++ ys)
-AllPairs-append R [] ys firsts lasts cross = lasts
-AllPairs-append R (x ∷ xs) ys firsts lasts cross =
-    AllPairs-cons R x (xs ++ ys)
-    (All-append (R x) xs ys (λ k d lt. firsts 0 (suc k) d (omega arith) (omega (arith, lt))) (All-head (λ y. All (R y) ys) x xs cross))
-    (AllPairs-append R xs ys (λ i j d lt within. firsts (suc i) (suc j) d (omega (arith, lt)) (omega (arith, within))) lasts (All-tail (λ y. All (R y) ys) x xs cross))
+filter-sorted : (p : List ℕ → Bool) (is : List (List ℕ)) → IsSorted is → IsSorted (filter p is)
+filter-sorted p [] sorted = tt
+filter-sorted p (i ∷ is) sorted = by (p i) (filter-sorted p is sorted.1)
+  where
+    by : (b : Bool) → IsSorted (filter p is) → IsSorted (cond b (i ∷ filter p is) (filter p is))
+    by true rest = (each-filter (λ j. slice_cmp nat_cmp i j ≡ Less) p is sorted.0, rest)
+    by false rest = rest
 
-enumerate-number : {X : Type 0} (n i : ℕ) (xs : List X) (d : ℕ × X) → i < length xs → (get_or (enumerate_from n xs) i d).0 ≡ n + i
-enumerate-number n i [] d lt = absurd (omega (arith, lt))
-enumerate-number n zero (x ∷ xs) d lt = omega arith
-enumerate-number n (suc i) (x ∷ xs) d lt = omega (arith, enumerate-number (n + 1) i xs d (omega (arith, lt)))
+ids_next-sorted : (side : Side) (ids : List (List ℕ)) (e : Entry) → IsSorted ids → IsSorted (ids_next side ids e)
+ids_next-sorted Job ids (JobMade moment id body) sorted = with_id-sorted id ids sorted
+ids_next-sorted Job ids (JobDeleted moment id) sorted = filter-sorted (λ i. not (bytes_eq i id)) ids sorted
+ids_next-sorted Monitor ids (MonitorMade moment id body) sorted = with_id-sorted id ids sorted
+ids_next-sorted Monitor ids (MonitorDeleted moment id) sorted = filter-sorted (λ i. not (bytes_eq i id)) ids sorted
+ids_next-sorted _ ids _ sorted = sorted
 
--- no two objects of a class have one name
-objects-apart : (tree : List (List ℕ)) (class : Class) → IsTree tree → AllPairs (λ a b. get_or tree a [] ≢ get_or tree b []) (objects_of tree class)
-objects-apart tree class is =
-    let R = λ (p q : ℕ × List ℕ). get_or tree p.0 [] ≢ get_or tree q.0 [] in
-    let all : AllPairs R (enumerate_from 0 tree) = λ i j d lt within same.
-    let last : j < length tree = omega (arith, within, length-enumerate_from 0 tree) in
-    let first : i < length tree = omega (arith, lt, last) in
-    let i-is : (get_or (enumerate_from 0 tree) i d).0 ≡ i = omega (arith, enumerate-number 0 i tree d first) in
-    let j-is : (get_or (enumerate_from 0 tree) j d).0 ≡ j = omega (arith, enumerate-number 0 j tree d last) in
-    let one : get_or tree i [] ≡ get_or tree j [] = ap (λ (k : ℕ). get_or tree k []) (sym i-is) ∙ same ∙ ap (λ (k : ℕ). get_or tree k []) j-is in
-    let alone = StandsAt-alone tree (get_or tree j []) i j is (first, one) (last, refl) in omega (arith, alone, lt) in
-    AllPairs-map (λ a b. get_or tree a [] ≢ get_or tree b []) (λ (p : ℕ × List ℕ). p.0) (filter (λ (p : ℕ × List ℕ). has_path_to class p.1) (enumerate_from 0 tree))
-    (AllPairs-filter R (λ (p : ℕ × List ℕ). has_path_to class p.1) (enumerate_from 0 tree) all)
+ids_after-sorted : (side : Side) (h : History) → IsSorted (ids_after side h)
+ids_after-sorted side Start = tt
+ids_after-sorted side (h ▷ e) = ids_next-sorted side (ids_after side h) e (ids_after-sorted side h)
 
--- no two slots of a metric have the same names
-metric-apart : (tree : List (List ℕ)) (def : Def) → IsTree tree → AreDistinct (slots_of_def tree def)
-metric-apart tree def is =
-    AllPairs-map (λ a b. a ≢ b) slot_names (map (slot_of tree def) (objects_of tree def.class))
-    (AllPairs-map (λ a b. slot_names a ≢ slot_names b) (slot_of tree def) (objects_of tree def.class)
-    (λ i j d lt within same. objects-apart tree def.class is i j d lt within (append_cancel_right _ _ (32 ∷ def.name) same)))
+-- ---- files
 
--- names whose metric is of some kind
-record IsNamed (P : List ℕ → Type 0) (names : List ℕ) : Type 0 where
-  object : List ℕ
-  metric : List ℕ
-  lacks : HasNoSpace object
-  names_are : names ≡ object ++ 32 ∷ metric
-  metric_is : P metric
+distinct-append : (xs ys : List Report) → AreDistinct xs → AreDistinct ys → AllByRecursion (λ x. AllByRecursion (AreApart x) ys) xs → AreDistinct (xs ++ ys)
+distinct-append [] ys one other apart = other
+distinct-append (x ∷ xs) ys one other apart =
+    (each-append (AreApart x) xs ys one.0 apart.0, distinct-append xs ys one.1 other apart.1)
 
-metric-named : (P : List ℕ → Type 0) (tree : List (List ℕ)) (def : Def) → IsTree tree → P def.name → All (IsNamed P) (map slot_names (slots_of_def tree def))
-metric-named P tree def is named =
-    All-map (IsNamed P) slot_names (slots_of_def tree def)
-    (All-map (λ s. IsNamed P (slot_names s)) (slot_of tree def) (objects_of tree def.class)
-    (λ k d lt. record { object = get_or tree (get_or (objects_of tree def.class) k d) []; metric = def.name; lacks = object-lacks-space tree _ is; names_are = refl; metric_is = named }))
+flat_map-each : {A : Type 0} (P : A → Type 0) (Q : Report → Type 0) (f : A → List Report) (is : List A) → ((i : A) → P i → AllByRecursion Q (f i)) → AllByRecursion P is → AllByRecursion Q (flat_map f is)
+flat_map-each P Q f [] each all = tt
+flat_map-each P Q f (i ∷ is) each all = each-append Q (f i) (flat_map f is) (each i all.0) (flat_map-each P Q f is each all.1)
 
-metrics-named : (P : List ℕ → Type 0) (tree : List (List ℕ)) (defs : List Def) → IsTree tree → All P (names_of defs) → All (IsNamed P) (map slot_names (flat_map (slots_of_def tree) defs))
-metrics-named P tree [] is named = All-nil (IsNamed P)
-metrics-named P tree (def ∷ defs) is named =
-    subst (λ l. All (IsNamed P) l) (sym (map-append slot_names (slots_of_def tree def) (flat_map (slots_of_def tree) defs)))
-    (All-append (IsNamed P) (map slot_names (slots_of_def tree def)) (map slot_names (flat_map (slots_of_def tree) defs)) (metric-named P tree def is (All-head P def.name (names_of defs) named)) (metrics-named P tree defs is (All-tail P def.name (names_of defs) named)))
+-- what a file of an id at an end says of itself
+abbrev IsOf : List ℕ → ℕ → Report → Type 0
+IsOf id end f = (f.end ≡ end) × (f.job ≡ id)
 
--- No two slots have the same names.
-pub slots-apart : (tree : List (List ℕ)) (defs : List Def) → IsTree tree → AllPairs (λ a b. a ≢ b) (names_of defs) → AreDistinct (flat_map (slots_of_def tree) defs)
-slots-apart tree [] is apart = λ i j d lt within. absurd (omega (arith, within))
-slots-apart tree (def ∷ defs) is apart =
-    let block = map slot_names (slots_of_def tree def) in
-    let rest = map slot_names (flat_map (slots_of_def tree) defs) in
-    let others : All (λ m. def.name ≢ m) (names_of defs) = λ k d lt. apart 0 (suc k) d (omega arith) (omega (arith, lt)) in
-    let later = slots-apart tree defs is (λ i j d lt within. apart (suc i) (suc j) d (omega (arith, lt)) (omega (arith, within))) in
-    let named = metrics-named (λ m. def.name ≢ m) tree defs is others in
-    let cross : All (λ x. All (λ y. x ≢ y) rest) block =
-    All-weaker (IsNamed (λ m. m ≡ def.name)) (λ x. All (λ y. x ≢ y) rest)
-    (λ x own. All-weaker (IsNamed (λ m. def.name ≢ m)) (λ y. x ≢ y)
-    (λ y other same. other.metric_is (sym own.metric_is ∙ (names-apart own.object other.object own.metric other.metric own.lacks other.lacks (sym own.names_are ∙ same ∙ other.names_are)).1)) rest named)
-    block (metric-named (λ m. m ≡ def.name) tree def is refl) in
-    subst (λ l. AllPairs (λ a b. a ≢ b) l) (sym (map-append slot_names (slots_of_def tree def) (flat_map (slots_of_def tree) defs)))
-    (AllPairs-append (λ a b. a ≢ b) block rest (metric-apart tree def is) later cross)
+all-true : {A : Type 0} (P : A → Type 0) (is : List A) → ((i : A) → P i) → AllByRecursion P is
+all-true P [] all = tt
+all-true P (i ∷ is) all = (all i, all-true P is all)
 
-many-from : (tree : List (List ℕ)) (n : ℕ) (defs : List Def) → length (flat_map (slots_of_def tree) defs) ≡ length (flat_map (slots_of_metric tree) (enumerate_from n defs))
-many-from tree n [] = refl
-many-from tree n (def ∷ defs) =
-    let objects = objects_of tree def.class in
-    omega (
-      arith,
-      length-append (slots_of_def tree def) (flat_map (slots_of_def tree) defs),
-      length-append (slots_of_metric tree (n, def)) (flat_map (slots_of_metric tree) (enumerate_from (n + 1) defs)),
-      length-map objects (slot_of tree def),
-      length-map objects (key_of n),
-      many-from tree (n + 1) defs,
-    )
+module _ (terms : Side → List ℕ → Terms) where
+  file_of-is : (h : History) (id : List ℕ) (end : ℕ) (o : Option Standing) → AllByRecursion (IsOf id end) (file_of terms h id end o)
+  file_of-is h id end None = tt
+  file_of-is h id end (Some s) = by (is_due terms h (making_of Job id s) (terms Job s.body) end)
+    where
+      by : (b : Bool) → AllByRecursion (IsOf id end) (cond b (report_of terms h (making_of Job id s) (terms Job s.body) end ∷ []) [])
+      by true = ((refl, refl), tt)
+      by false = tt
 
--- There are as many as the inventory has slots.
-pub length-slots : (tree : List (List ℕ)) (defs : List Def) → length (flat_map (slots_of_def tree) defs) ≡ length (slots_of tree defs)
-length-slots tree defs = many-from tree 0 defs
+  file_of-distinct : (h : History) (id : List ℕ) (end : ℕ) (o : Option Standing) → AreDistinct (file_of terms h id end o)
+  file_of-distinct h id end None = tt
+  file_of-distinct h id end (Some s) = by (is_due terms h (making_of Job id s) (terms Job s.body) end)
+    where
+      by : (b : Bool) → AreDistinct (cond b (report_of terms h (making_of Job id s) (terms Job s.body) end ∷ []) [])
+      by true = (tt, tt)
+      by false = tt
 
--- No name of a slot's object has a space.
-pub slots-spaceless : (tree : List (List ℕ)) (defs : List Def) → IsTree tree → AreSpaceless (flat_map (slots_of_def tree) defs)
-slots-spaceless tree [] is = All-nil (λ s. HasNoSpace s.object)
-slots-spaceless tree (def ∷ defs) is =
-    All-append (λ s. HasNoSpace s.object) (slots_of_def tree def) (flat_map (slots_of_def tree) defs)
-    (All-map (λ s. HasNoSpace s.object) (slot_of tree def) (objects_of tree def.class) (λ k d lt. object-lacks-space tree (get_or (objects_of tree def.class) k d) is))
-    (slots-spaceless tree defs is)
+  file_at-is : (h : History) (end : ℕ) (id : List ℕ) → AllByRecursion (IsOf id end) (file_at terms h end id)
+  file_at-is h end id = file_of-is h id end (standing_after terms Job (before (60 * end) h) id)
 
-position_from-same : {A : Type 0} (t u : A → Bool) (j : ℕ) (xs : List A) → All (λ x. t x ≡ u x) xs → position_from t j xs ≡ position_from u j xs
-position_from-same t u j [] same = refl
-position_from-same t u j (x ∷ xs) same =
-    ap (λ (b : Bool). cond b (Some j) (position_from t (j + 1) xs)) (All-head (λ y. t y ≡ u y) x xs same)
-    ∙ ap (λ (r : Option ℕ). cond (u x) (Some j) r) (position_from-same t u (j + 1) xs (All-tail (λ y. t y ≡ u y) x xs same))
+  among-distinct : (h : History) (end : ℕ) (is : List (List ℕ)) → IsSorted is → AreDistinct (flat_map (file_at terms h end) is)
+  among-distinct h end [] sorted = tt
+  among-distinct h end (i ∷ is) sorted =
+      distinct-append (file_at terms h end i) (flat_map (file_at terms h end) is)
+      (file_of-distinct h i end (standing_after terms Job (before (60 * end) h) i))
+      (among-distinct h end is sorted.1)
+      (each-map (IsOf i end) (λ x. AllByRecursion (AreApart x) (flat_map (file_at terms h end) is)) (file_at terms h end i)
+      (λ x of_i. flat_map-each (λ j. slice_cmp nat_cmp i j ≡ Less) (AreApart x) (file_at terms h end) is
+      (λ j less. each-map (IsOf j end) (AreApart x) (file_at terms h end j)
+      (λ y of_j ends jobs.
+      let same : i ≡ j = sym of_i.1 ∙ (jobs ∙ of_j.1) in
+      less-irrefl i (ap (λ k. slice_cmp nat_cmp i k) same ∙ less))
+      (file_at-is h end j))
+      sorted.0)
+      (file_at-is h end i))
 
-both : (a b c : Bool) → (a ≡ true → b ≡ true → c ≡ true) → (c ≡ true → (a ≡ true) × (b ≡ true)) → (a && b) ≡ c
-both true true c into back = sym (into refl refl)
-both true false c into back = sym (false_from_ne_true c (λ is. let never = (back is).1 in cc))
-both false b c into back = sym (false_from_ne_true c (λ is. let never = (back is).0 in cc))
+  files_at-distinct : (h : History) (end : ℕ) → AreDistinct (files_at terms h end)
+  files_at-distinct h end = among-distinct h end (ids_after Job (before (60 * end) h)) (ids_after-sorted Job (before (60 * end) h))
 
--- The names of an object and a metric are found apart as they are together.
-pub slot_place-names : (slots : List Slot) (object metric : List ℕ) → AreSpaceless slots → HasNoSpace object → slot_place slots object metric ≡ names_place slots (object ++ 32 ∷ metric)
-slot_place-names slots object metric spaceless lacks =
-    position_from-same (λ slot. bytes_eq slot.object object && bytes_eq slot.metric metric) (λ slot. bytes_eq (slot_names slot) (object ++ 32 ∷ metric)) 0 slots
-    (λ k d lt.
-    let s = get_or slots k d in
-    both (bytes_eq s.object object) (bytes_eq s.metric metric) (bytes_eq (slot_names s) (object ++ 32 ∷ metric))
-    (λ one two. (bytes_eq-Decides (slot_names s) (object ++ 32 ∷ metric)).1
-    (ap (λ (l : List ℕ). l ++ 32 ∷ s.metric) ((bytes_eq-Decides s.object object).0 one) ∙ ap (λ (l : List ℕ). object ++ 32 ∷ l) ((bytes_eq-Decides s.metric metric).0 two)))
-    (λ whole.
-    let apart = names-apart s.object object s.metric metric (spaceless k d lt) lacks ((bytes_eq-Decides (slot_names s) (object ++ 32 ∷ metric)).0 whole) in
-    ((bytes_eq-Decides s.object object).1 apart.0, (bytes_eq-Decides s.metric metric).1 apart.1)))
+  files_at-ends : (h : History) (end : ℕ) → AllByRecursion (λ f. f.end ≡ end) (files_at terms h end)
+  files_at-ends h end =
+      flat_map-each (λ id. Unit {0}) (λ f. f.end ≡ end) (file_at terms h end) (ids_after Job (before (60 * end) h))
+      (λ id any. each-map (IsOf id end) (λ f. f.end ≡ end) (file_at terms h end id) (λ f of_id. of_id.0) (file_at-is h end id))
+      (all-true (λ id. Unit {0}) (ids_after Job (before (60 * end) h)) (λ id. tt))
+
+  behind-ends : (h : History) (t n : ℕ) → AllByRecursion (λ f. f.end ≤ t + n) (behind (files_at terms h) t n)
+  behind-ends h t zero = tt
+  behind-ends h t (suc n) =
+      each-append (λ f. f.end ≤ t + suc n) (behind (files_at terms h) t n) (files_at terms h (suc (t + n)))
+      (each-map (λ f. f.end ≤ t + n) (λ f. f.end ≤ t + suc n) (behind (files_at terms h) t n) (λ f le. omega arith) (behind-ends h t n))
+      (each-map (λ f. f.end ≡ suc (t + n)) (λ f. f.end ≤ t + suc n) (files_at terms h (suc (t + n))) (λ f is. omega arith) (files_at-ends h (suc (t + n))))
+
+  behind-distinct : (h : History) (t n : ℕ) → AreDistinct (behind (files_at terms h) t n)
+  behind-distinct h t zero = tt
+  behind-distinct h t (suc n) =
+      distinct-append (behind (files_at terms h) t n) (files_at terms h (suc (t + n)))
+      (behind-distinct h t n)
+      (files_at-distinct h (suc (t + n)))
+      (each-map (λ f. f.end ≤ t + n) (λ x. AllByRecursion (AreApart x) (files_at terms h (suc (t + n)))) (behind (files_at terms h) t n)
+      (λ x le. each-map (λ f. f.end ≡ suc (t + n)) (AreApart x) (files_at terms h (suc (t + n)))
+      (λ y is ends jobs. let late : ⊥ = omega (arith, le, is, ends) in late)
+      (files_at-ends h (suc (t + n))))
+      (behind-ends h t n))
+
+  pub files_of-distinct : (h : History) → AreDistinct (files_of terms h)
+  files_of-distinct h = behind-distinct h 0 (tick_of (last_moment h))

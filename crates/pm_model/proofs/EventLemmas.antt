@@ -16,7 +16,8 @@ use Rattle.pm_model.specs.declared.event.Event.{Event}
 pub last_moment-more : (events : List Event) (e : Event) → last_moment (events ++ e ∷ []) ≡ e.moment
 last_moment-more events e = fold-append (λ _ x. x.moment) 0 events (e ∷ [])
 
-eqb_other : (a b : ℕ) → a ≢ b → eqb a b ≡ false
+-- Two numbers that differ fail the test.
+pub eqb_other : (a b : ℕ) → a ≢ b → eqb a b ≡ false
 eqb_other a b differs = elim (eqb_tells a b) [ inl same ↦ absurd (differs same.1) | inr other ↦ other.0 ]
 
 -- It is the last of its own tick.

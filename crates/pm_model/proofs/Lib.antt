@@ -6,6 +6,13 @@ pub mod DefaultLemmas
 pub mod WholeLinesLemmas
 pub mod ReadingLemmas
 pub mod SlotTableLemmas
+pub mod SlotNamesLemmas
+pub mod TickLemmas
+pub mod HistoryLemmas
+pub mod StayLemmas
+pub mod StandingLemmas
+pub mod StepLemmas
+pub mod CrossedLemmas
 pub mod DistinctLemmas
 pub mod LineLawLemmas
 pub mod ReadingLawLemmas

@@ -1,5 +1,5 @@
 -- Lines of events, of the form `MOMENT LDN METRIC VALUE` (this project's own).
-use Rattle.std.specs.Prelude.{◌&&◌, ℕ, List, [], ◌∷◌, length, nat_le, Option, Some, None, if◌then◌else◌}
+use Rattle.std.specs.Prelude.{◌≡◌, ◌≢◌, ◌&&◌, ◌++◌, ℕ, All, List, [], ◌∷◌, length, nat_le, Option, Some, None, if◌then◌else◌}
 use Rattle.pm_base.specs.Pieces.{pieces_of}
 use Rattle.pm_base.specs.Number.{is_number, is_moment, number_of}
 
@@ -25,3 +25,8 @@ event_of_words _ = None
 -- What a line of at most 2,048 bytes says; none where it hasn't the form.
 abbrev pub event_line : List ℕ → Option LineEvent
 event_line line = if nat_le (length line) 2048 then event_of_words (words_of line) else None
+
+-- The names of an object and a metric, and both with the space between. That of the object has none.
+pub record AreNames (object metric names : List ℕ) : Type 0 where
+  pub word : All (λ b. b ≢ 32) object
+  pub joined : names ≡ object ++ 32 ∷ metric

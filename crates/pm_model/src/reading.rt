@@ -4,7 +4,7 @@
 //!     measure NAME CLASS KIND REDUCE
 //!     measure NAME CLASS DER REDUCE N
 //!     end
-ghost use Rattle.std.specs.Prelude.{◌≡◌, ◌+◌, ◌-◌, ◌≤◌, ◌<◌, ◌↔◌, length, take, IsTrue, Err};
+ghost use Rattle.std.specs.Prelude.{◌≡◌, ◌+◌, ◌-◌, ◌≤◌, ◌<◌, ◌↔◌, length, take, IsTrue, IfOk, Err};
 ghost use Rattle.pm_base.specs.Causes.{Rose};
 ghost use Rattle.pm_base.specs.Line.{HasNoLine};
 ghost use Rattle.pm_base.specs.Feed.{left_to, KnowsEnd, MOST_READ};
@@ -56,7 +56,9 @@ pub fn read_inventory<S: Source>(
     ensures read { S.IsTold → ReadsInventory (left_to feed.old (S.left source.old)) (left_to feed.new (S.left source.new)) result }
     ensures given { S.IsTold → feed.new.given + length (left_to feed.new (S.left source.new)) ≡ feed.old.given + length (left_to feed.old (S.left source.old)) }
     ensures knows_end { S.IsTold → KnowsEnd feed.new (S.left source.new) }
-    ensures limit { S.IsTold → result ≡ Err InventoryError.Limit → let left = left_to feed.new (S.left source.new) in (MOST_READ ≤ feed.new.given + length left) × HasNoLine (take (MOST_READ - feed.new.given) left) }
+    ensures limit { S.IsTold → result ≡ Err InventoryError.Limit → let left = left_to feed.new (S.left source.new) in (feed.new.given ≤ MOST_READ) × (MOST_READ ≤ feed.new.given + length left) × HasNoLine (take (MOST_READ - feed.new.given) left) }
+    ensures few { IfOk result (λ r. r.lines ≤ MOST_READ + 1) }
+    ensures open_line { result ≡ Err InventoryError.Failed → HasNoLine feed.new.buffered }
     ensures failed { result ≡ Err InventoryError.Failed → Rose (S.faults source.old) (S.faults source.new) }
     ensures later { S.faults source.old ≤ S.faults source.new }
 {
@@ -110,7 +112,8 @@ fn finish(
     line: u64,
 ) -> Result<ReadInventory, InventoryError>
     requires { 1 ≤ line }
-    ensures { EndsAt (record { objects = tree; measures = catalogue }) line result }
+    ensures ends { EndsAt (record { objects = tree; measures = catalogue }) line result }
+    ensures few { IfOk result (λ r. r.lines ≡ line) }
 {
     if line == 1 {
         return read_default(alloc);
@@ -127,7 +130,8 @@ fn finish(
 }
 
 fn read_default(alloc: Global) -> Result<ReadInventory, InventoryError>
-    ensures { (state : InventoryState) → EndsAt state 1 result }
+    ensures ends { (state : InventoryState) → EndsAt state 1 result }
+    ensures few { IfOk result (λ r. r.lines ≡ 1) }
 {
     match Inventory::default(alloc) {
         Ok(inventory) => Ok(ReadInventory {

@@ -1,8 +1,10 @@
 pub mod TallyLemmas
 pub mod CountingLemmas
+pub mod LinesLemmas
+pub mod TextLemmas
+pub mod WholeLemmas
 pub mod TakingLemmas
 pub mod Progress
-pub mod FinishLemmas
-pub mod InventoryLemmas
+pub mod EndLemmas
 pub mod WordsLemmas
-pub mod PlainLemmas
+pub mod OutcomeLemmas

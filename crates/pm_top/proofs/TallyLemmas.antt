@@ -6,9 +6,9 @@ use Rattle.std.proofs.Math.Dec.{eqb}
 use Rattle.std.specs.List.{All, flat_map, enumerate_from, range_with_len}
 use Rattle.pm_base.specs.Moment.{tick_of}
 use Rattle.pm_model.specs.Slot.{Slot}
-use Rattle.pm_model.specs.Event.{last_moment, events_in}
+use Rattle.pm_model.specs.Event.{last_moment, events_in, registered}
 use Rattle.pm_model.specs.declared.event.Event.{Event}
-use Rattle.pm_model.proofs.EventLemmas.{last_moment-more, events_in-other, events_in-none}
+use Rattle.pm_model.proofs.EventLemmas.{last_moment-more, events_in-none, registered-none, registered-other}
 use Rattle.pm_top.specs.Tally.{slot_line, tick_lines, lines_before, ended_lines, all_lines}
 
 -- numbers in a row, in two parts
@@ -36,7 +36,7 @@ flat_map_none f a (suc n) none =
     ap (λ (l : List ℕ). l ++ flat_map f (range_with_len (a + 1) n)) (none a (omega arith) (omega arith))
     ∙ flat_map_none f (a + 1) n (λ k low high. none k (omega (arith, low)) (omega (arith, high)))
 
--- the lines of a tick by its events
+-- the lines of a tick by its registered events
 lines_of_events : List Slot → ℕ → List Event → List ℕ
 lines_of_events slots tick events = flat_map (λ place. slot_line tick place.1 (map (λ e. e.value) (filter (λ e. eqb e.slot place.0) events))) (enumerate_from 0 slots)
 
@@ -47,9 +47,9 @@ no_lines (slot ∷ slots) tick first = no_lines slots tick (first + 1)
 
 pub tick_lines-none : (slots : List Slot) (events : List Event) (tick : ℕ) → events_in events tick ≡ [] → tick_lines slots events tick ≡ []
 unfolding lines_of_events
-tick_lines-none slots events tick none = ap (lines_of_events slots tick) none ∙ no_lines slots tick 0
+tick_lines-none slots events tick none = ap (lines_of_events slots tick) (registered-none slots events tick none) ∙ no_lines slots tick 0
 
-tick_lines-same : (slots : List Slot) (events more : List Event) (tick : ℕ) → events_in more tick ≡ events_in events tick → tick_lines slots more tick ≡ tick_lines slots events tick
+tick_lines-same : (slots : List Slot) (events more : List Event) (tick : ℕ) → events_in (registered slots more) tick ≡ events_in (registered slots events) tick → tick_lines slots more tick ≡ tick_lines slots events tick
 unfolding lines_of_events
 tick_lines-same slots events more tick same = ap (lines_of_events slots tick) same
 
@@ -57,7 +57,7 @@ tick_lines-same slots events more tick same = ap (lines_of_events slots tick) sa
 pub lines_before-more : (slots : List Slot) (events : List Event) (e : Event) (tick : ℕ) → tick ≤ tick_of e.moment → lines_before slots (events ++ e ∷ []) tick ≡ lines_before slots events tick
 lines_before-more slots events e tick past =
     flat_map_same (tick_lines slots (events ++ e ∷ [])) (tick_lines slots events) 0 tick
-    (λ k low high. tick_lines-same slots events (events ++ e ∷ []) k (events_in-other events e k (λ is. omega (arith, high, past, is))))
+    (λ k low high. tick_lines-same slots events (events ++ e ∷ []) k (registered-other slots events e k (λ is. omega (arith, high, past, is))))
 
 -- The lines of the ticks before a later one: those before the tick of the last event, and its own.
 pub lines_before-later : (slots : List Slot) (events : List Event) (moment tick : ℕ) → All (λ e. e.moment ≤ moment) events → tick_of moment < tick → lines_before slots events tick ≡ lines_before slots events (tick_of moment) ++ tick_lines slots events (tick_of moment)

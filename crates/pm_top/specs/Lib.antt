@@ -1,11 +1,9 @@
 pub mod Exit
-pub mod Slots
 pub mod Tally
-pub mod Outcome
 pub mod Counting
 pub mod Taking
+pub mod Next
 pub mod Finishing
-pub mod Inventory
+pub mod Outcome
 pub mod Words
-pub mod Plain
 pub mod StatusText

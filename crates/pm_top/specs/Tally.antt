@@ -1,5 +1,5 @@
 -- The lines of a tally (this project's own).
-use Rattle.std.specs.Prelude.{◌≡◌, ◌+◌, ◌*◌, ℕ, List, [], ◌∷◌, ◌++◌, Option, Some, None}
+use Rattle.std.specs.Prelude.{◌≡◌, ◌+◌, ◌*◌, ◌==◌, ℕ, Bool, List, [], ◌∷◌, ◌++◌, length, Option, Some, None, is_none, if◌then◌else◌}
 use Rattle.std.specs.List.{flat_map, enumerate_from, range_with_len, join_with_byte}
 use Rattle.std.specs.Fmt.{decimal}
 use Rattle.pm_base.specs.Moment.{tick_of}
@@ -20,7 +20,7 @@ slot_line tick slot (v ∷ values) = value_line (60 * tick) slot (reduced slot.r
 
 -- The lines of a tick, in the order of the slots.
 abbrev pub tick_lines : List Slot → List Event → ℕ → List ℕ
-tick_lines slots events tick = flat_map (λ place. slot_line tick place.1 (values_in events place.0 tick)) (enumerate_from 0 slots)
+tick_lines slots events tick = flat_map (λ place. slot_line tick place.1 (values_in slots events place.0 tick)) (enumerate_from 0 slots)
 
 -- The lines of the ticks before this one, in order.
 abbrev pub lines_before : List Slot → List Event → ℕ → List ℕ
@@ -34,6 +34,23 @@ ended_lines slots events = lines_before slots events (tick_of (last_moment event
 abbrev pub all_lines : List Slot → List Event → List ℕ
 all_lines slots events = lines_before slots events (tick_of (last_moment events) + 1)
 
--- No line is refused behind the events of those before it.
+-- The lines before the first one that is refused, behind earlier events.
+abbrev pub good_behind : List Slot → List Event → List (List ℕ) → List (List ℕ)
+good_behind slots earlier [] = []
+good_behind slots earlier (line ∷ lines) =
+    if is_none (refusal slots earlier line) then line ∷ good_behind slots (earlier ++ events_of slots (line ∷ [])) lines else []
+
+abbrev pub good_lines : List Slot → List (List ℕ) → List (List ℕ)
+good_lines slots lines = good_behind slots [] lines
+
+-- No line is refused.
 abbrev pub AreGood : List Slot → List (List ℕ) → Type 0
-AreGood slots lines = (before : List (List ℕ)) (line : List ℕ) (behind : List (List ℕ)) → lines ≡ before ++ line ∷ behind → refusal slots (events_of slots before) line ≡ None
+AreGood slots lines = good_lines slots lines ≡ lines
+
+-- What is written where no fault comes: of the good lines, the lines of all ticks, or where a line is refused, of those that
+-- a good line of a later tick ended.
+abbrev pub text_of_good : List Slot → Bool → List Event → List ℕ
+text_of_good slots all events = if all then all_lines slots events else ended_lines slots events
+
+abbrev pub tally_text : List Slot → List (List ℕ) → List ℕ
+tally_text slots lines = text_of_good slots (length (good_lines slots lines) == length lines) (events_of slots (good_lines slots lines))

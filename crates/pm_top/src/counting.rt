@@ -1,44 +1,44 @@
 //! What a tally keeps of the events so far: of the last tick alone.
-ghost use Rattle.std.specs.Prelude.{◌≡◌, ◌≤◌, ◌*◌, ◌+◌, ◌<◌, ◌++◌, ◌∷◌, [], ℕ, List, None, IsTrue, false};
+ghost use Rattle.std.specs.Prelude.{◌≡◌, ◌≤◌, ◌*◌, ◌+◌, ◌<◌, ◌++◌, ◌∷◌, [], ℕ, List, None, IsTrue, false, length, map, IfOk, if◌then◌else◌};
 ghost use Rattle.pm_base.specs.Moment.{tick_of};
+ghost use Rattle.pm_model.specs.Slot.{Slot};
 ghost use Rattle.pm_model.specs.Event.{order_refusal};
 ghost use Rattle.pm_model.specs.declared.event.Event.{Event};
+ghost use Rattle.pm_top.specs.Counting.{AreClear, Counts, CountsEvent};
 
+use crate::slot_count::{MOST_REGISTERED, SlotCount};
 use pm_base::{Code, tick};
-use pm_meas::Cell;
-use pm_model::Event;
+use pm_model::{Event, SlotTable};
+use std::alloc::{AllocError, Global};
 
-/// The most events that are registered in a tick.
-const MOST_REGISTERED: u32 = 1_073_741_824;
-
-/// The last moment, and of its tick the number of events and the fold of their values.
+/// The last moment, and of its tick how many events were registered and the count of each slot.
 #[derive(Debug, Drop)]
 pub struct Counting {
     pub moment: u64,
     pub registered: u32,
-    pub cell: Cell,
-    ghost sound: { cell.sum ≤ cell.n * 1048575 },
-    ghost few: { cell.n ≤ registered },
-    ghost most: { registered ≤ 1073741824 },
+    pub counts: Vec<SlotCount>,
 }
 
 impl Counting {
-    ghost use Rattle.pm_top.specs.Counting.{Counts};
-
     /// Of no event.
-    pub fn new() -> Counting
-        ensures { Counts result [] }
+    pub fn new(alloc: Global, slots: &SlotTable) -> Result<Counting, AllocError>
+        ensures counts { IfOk result (λ counting. Counts slots.now counting []) }
+        ensures many { IfOk result (λ counting. length counting.counts.items ≡ length slots.now) }
     {
-        Counting {
+        let mut counts = Vec::new(alloc);
+        for slot in 0..slots.len() {
+            counts.push(SlotCount::new(u32::from(slots.every(slot))))?;
+        }
+        Ok(Counting {
             moment: 0,
             registered: 0,
-            cell: Cell::empty(),
-        }
+            counts,
+        })
     }
 
     /// Why the event is refused behind those that were counted: E5 where its moment falls, E4 where its tick is full.
     pub fn refusal(&self, event: &Event) -> Option<Code>
-        ensures order { (events : List Event) → Counts self.now events → result ≡ order_refusal events event.now }
+        ensures order { (slots : List Slot) (events : List Event) → Counts slots self.now events → result ≡ order_refusal slots events event.now }
         ensures later { result ≡ None → self.now.moment ≤ event.now.moment }
         ensures room { result ≡ None → tick_of self.now.moment ≡ tick_of event.now.moment → self.now.registered < 1073741824 }
     {
@@ -62,30 +62,53 @@ impl Counting {
     /// Counts an event of the same tick.
     pub fn add(&mut self, event: &Event)
         requires value { event.now.value ≤ 1048575 }
-        requires slot { event.now.slot ≡ 0 }
+        requires slot { event.now.slot < length self.old.counts.items }
         requires later { self.old.moment ≤ event.now.moment }
         requires same { tick_of self.old.moment ≡ tick_of event.now.moment }
         requires room { self.old.registered < 1073741824 }
-        ensures { (events : List Event) → Counts self.old events → Counts self.new (events ++ event.now ∷ []) }
+        ensures many { length self.new.counts.items ≡ length self.old.counts.items }
+        ensures counted { (slots : List Slot) (events : List Event) → Counts slots self.old events → Counts slots self.new (events ++ event.now ∷ []) }
     {
-        self.moment = event.moment;
-        self.registered += 1;
-        self.cell.add(event.value);
+        self.count(event);
     }
 
     /// Begins a later tick, with its first event.
     pub fn begin(&mut self, event: &Event)
         requires value { event.now.value ≤ 1048575 }
-        requires slot { event.now.slot ≡ 0 }
+        requires slot { event.now.slot < length self.old.counts.items }
         requires later { tick_of self.old.moment < tick_of event.now.moment }
-        ensures { (events : List Event) → Counts self.old events → Counts self.new (events ++ event.now ∷ []) }
+        ensures many { length self.new.counts.items ≡ length self.old.counts.items }
+        ensures counted { (slots : List Slot) (events : List Event) → Counts slots self.old events → Counts slots self.new (events ++ event.now ∷ []) }
     {
-        let mut cell = Cell::empty();
-        cell.add(event.value);
-        *self = Counting {
-            moment: event.moment,
-            registered: 1,
-            cell,
-        };
+        clear(self.counts.as_mut_slice());
+        self.registered = 0;
+        self.count(event);
+    }
+
+    fn count(&mut self, event: &Event)
+        requires value { event.now.value ≤ 1048575 }
+        requires slot { event.now.slot < length self.old.counts.items }
+        requires room { self.old.registered < 1073741824 }
+        ensures { CountsEvent self.old event.now self.new }
+    {
+        let is_registered = self.counts[event.slot as usize].count(event.value);
+        self.registered = one_more(self.registered, is_registered);
+        self.moment = event.moment;
+    }
+}
+
+fn one_more(registered: u32, is: bool) -> u32
+    requires { registered < 1073741824 }
+    ensures { result ≡ (if is then registered + 1 else registered) }
+{
+    if is { registered + 1 } else { registered }
+}
+
+// Begins the count of each slot anew.
+fn clear(counts: &mut [SlotCount])
+    ensures { AreClear counts.old counts.new }
+{
+    for count in counts.iter_mut() {
+        count.clear();
     }
 }

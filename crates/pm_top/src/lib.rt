@@ -2,17 +2,16 @@
 #![tactic(auto)]
 
 mod counting;
-mod inventory;
+mod event;
 mod lines;
-mod plain;
-mod slot;
+mod next;
+mod slot_count;
 mod status;
 mod status_text;
 mod taking;
 mod tallying;
 mod top;
 
-pub use plain::{PlainTally, plain_tally};
 pub use status::Status;
 pub use tallying::tally;
 pub use top::pmd;

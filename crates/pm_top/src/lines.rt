@@ -1,17 +1,18 @@
 //! The lines that a tally writes.
-ghost use Rattle.std.specs.Prelude.{◌≡◌, ◌≤◌, ℕ, List, ◌++◌, ◌∷◌, [], take, Some, OnOk, MatchResult, Err};
+ghost use Rattle.std.specs.Prelude.{◌≡◌, ◌≤◌, ◌<◌, ◌+◌, ◌*◌, ◌^◌, ℕ, List, ◌++◌, ◌∷◌, [], length, take, Some, slice_get, OnOk, MatchResult, Err};
 ghost use Rattle.pm_base.specs.Causes.{Rose};
 ghost use Rattle.pm_base.specs.Moment.{tick_of};
+ghost use Rattle.pm_meas.specs.Cell.{cell_of};
+ghost use Rattle.pm_model.specs.Slot.{Slot};
 ghost use Rattle.pm_model.specs.declared.event.Event.{Event};
-ghost use Rattle.pm_top.specs.Slots.{the_slot, the_slots};
-ghost use Rattle.pm_top.specs.Tally.{value_line, tick_lines};
+ghost use Rattle.pm_top.specs.Tally.{value_line, slot_line, tick_lines};
 ghost use Rattle.pm_top.specs.Counting.{Counts};
 
 use crate::counting::Counting;
-use crate::slot::{metric, object};
 use itoa::Buffer;
 use pm_base::{Sink, TICK_SECONDS, tick};
-use pm_meas::Reduce;
+use pm_meas::Cell;
+use pm_model::SlotTable;
 use std::alloc::AllocError;
 
 /// Why lines were not written.
@@ -25,15 +26,17 @@ pub enum Fault {
 
 /// Writes the lines of the tick that is counted, by a text of which the room is used again.
 pub fn write_tick<K: Sink>(
+    slots: &SlotTable,
     counting: &Counting,
     text: &mut Vec<u8>,
     output: &mut K,
 ) -> Result<(), Fault>
-    ensures written { K.IsTold → (events : List Event) → Counts counting.now events → let lines = tick_lines the_slots events (tick_of counting.now.moment) in MatchResult result (λ _. K.written output.new ≡ K.written output.old ++ lines) (λ _. (bytes : ℕ) × (K.written output.new ≡ K.written output.old ++ take bytes lines)) }
+    requires { length counting.now.counts.items ≡ length slots.now }
+    ensures written { K.IsTold → (events : List Event) → Counts slots.now counting.now events → let lines = tick_lines slots.now events (tick_of counting.now.moment) in MatchResult result (λ _. K.written output.new ≡ K.written output.old ++ lines) (λ _. (bytes : ℕ) × (K.written output.new ≡ K.written output.old ++ take bytes lines)) }
     ensures fault { result ≡ Err Fault.Write → Rose (K.faults output.old) (K.faults output.new) }
     ensures later { K.faults output.old ≤ K.faults output.new }
 {
-    match tick_text(counting, text) {
+    match tick_text(slots, counting, text) {
         Ok(()) => put_text(text, output),
         Err(_) => Err(Fault::Memory),
     }
@@ -53,31 +56,59 @@ fn put_text<K: Sink>(text: &[u8], output: &mut K) -> Result<(), Fault>
     }
 }
 
-// The lines of the tick that is counted.
-fn tick_text(counting: &Counting, text: &mut Vec<u8>) -> Result<(), AllocError>
-    ensures { (events : List Event) → Counts counting.now events → OnOk result (text.new.items ≡ tick_lines the_slots events (tick_of counting.now.moment)) }
+// The lines of the tick that is counted, in the order of the slots.
+fn tick_text(slots: &SlotTable, counting: &Counting, text: &mut Vec<u8>) -> Result<(), AllocError>
+    requires { length counting.now.counts.items ≡ length slots.now }
+    ensures { (events : List Event) → Counts slots.now counting.now events → OnOk result (text.new.items ≡ tick_lines slots.now events (tick_of counting.now.moment)) }
 {
     text.clear();
-    if counting.cell.n == 0 {
+    let of_tick = tick(counting.moment);
+    for slot in 0..slots.len() {
+        cell_text(
+            slots,
+            slot,
+            of_tick,
+            &counting.counts[slot as usize].cell,
+            text,
+        )?;
+    }
+    Ok(())
+}
+
+// The line of a slot, behind other lines.
+fn cell_text(
+    slots: &SlotTable,
+    slot: u16,
+    of_tick: u64,
+    cell: &Cell,
+    text: &mut Vec<u8>,
+) -> Result<(), AllocError>
+    requires slot { slot < length slots.now }
+    requires moment { 60 * of_tick < 2 ^ 64 }
+    ensures { (s : Slot) (values : List ℕ) → slice_get slots.now slot ≡ Some s → cell.now ≡ cell_of values → OnOk result (text.new.items ≡ text.old.items ++ slot_line of_tick s values) }
+{
+    if cell.n == 0 {
         return Ok(());
     }
-    match counting.cell.reduce(Reduce::Sum) {
-        Some(value) => value_text(text, tick(counting.moment) * TICK_SECONDS, value),
+    match cell.reduce(slots.reduce(slot)) {
+        Some(value) => value_text(text, of_tick * TICK_SECONDS, slots.names(slot), value),
         None => Ok(()),
     }
 }
 
-// One line, with its line feed, behind nothing.
-fn value_text(text: &mut Vec<u8>, moment: u64, value: u64) -> Result<(), AllocError>
-    requires { text.old.items ≡ [] }
-    ensures { OnOk result (text.new.items ≡ value_line moment the_slot (Some value)) }
+/// Appends a line, with its line feed.
+pub fn value_text(
+    text: &mut Vec<u8>,
+    moment: u64,
+    names: &[u8],
+    value: u64,
+) -> Result<(), AllocError>
+    ensures { (slot : Slot) → names.now ≡ slot.object ++ 32 ∷ slot.metric → OnOk result (text.new.items ≡ text.old.items ++ value_line moment slot (Some value)) }
 {
     let mut digits = Buffer::new();
     text.extend_from_slice(digits.format(moment).as_bytes())?;
     text.extend_from_slice(b" ")?;
-    text.extend_from_slice(object())?;
-    text.extend_from_slice(b" ")?;
-    text.extend_from_slice(metric())?;
+    text.extend_from_slice(names)?;
     text.extend_from_slice(b" ")?;
     text.extend_from_slice(digits.format(value).as_bytes())?;
     text.extend_from_slice(b"\n")

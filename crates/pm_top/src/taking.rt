@@ -1,15 +1,17 @@
 //! What a tally does with a further line.
-ghost use Rattle.std.specs.Prelude.{◌≡◌, ◌≤◌, List, Err};
+ghost use Rattle.std.specs.Prelude.{◌≡◌, ◌≤◌, ◌++◌, ℕ, List, length, Err};
 ghost use Rattle.pm_base.specs.Causes.{Rose};
 ghost use Rattle.pm_model.specs.declared.event.Event.{Event};
 ghost use Rattle.pm_top.specs.Counting.{Counts};
+ghost use Rattle.pm_top.specs.Tally.{ended_lines};
 ghost use Rattle.pm_top.specs.Taking.{TakesLine, WritesLine, stop_status};
 
 use crate::Status;
 use crate::counting::Counting;
+use crate::event::read;
 use crate::lines::{Fault, write_tick};
-use crate::slot::read;
 use pm_base::{Code, Sink, tick};
+use pm_model::SlotTable;
 
 /// Why a line was not counted.
 #[derive(Clone, Copy, Debug, PartialEq, Eq)]
@@ -38,17 +40,20 @@ impl Stop {
 /// Counts the event of a line behind earlier ones. Where it begins a later tick, the lines of the tick before are written
 /// first.
 pub fn take_line<K: Sink>(
+    slots: &SlotTable,
     counting: &mut Counting,
     text: &mut Vec<u8>,
     line: &[u8],
     output: &mut K,
 ) -> Result<(), Stop>
-    ensures taken { (events : List Event) → Counts counting.old events → TakesLine events line.now result counting.new }
-    ensures written { K.IsTold → (events : List Event) → Counts counting.old events → WritesLine events line.now result (K.written output.old) (K.written output.new) }
+    requires { length counting.old.counts.items ≡ length slots.now }
+    ensures many { length counting.new.counts.items ≡ length slots.now }
+    ensures taken { (events : List Event) → Counts slots.now counting.old events → TakesLine slots.now events line.now result counting.new }
+    ensures written { K.IsTold → (events : List Event) (before : List ℕ) → Counts slots.now counting.old events → K.written output.old ≡ before ++ ended_lines slots.now events → WritesLine slots.now events line.now result before (K.written output.new) }
     ensures fault { result ≡ Err Stop.WriteFault → Rose (K.faults output.old) (K.faults output.new) }
     ensures later { K.faults output.old ≤ K.faults output.new }
 {
-    let event = match read(line) {
+    let event = match read(slots, line) {
         Ok(event) => event,
         Err(code) => return Err(Stop::Refused(code)),
     };
@@ -59,7 +64,7 @@ pub fn take_line<K: Sink>(
         counting.add(&event);
         return Ok(());
     }
-    match write_tick(counting, text, output) {
+    match write_tick(slots, counting, text, output) {
         Ok(()) => {
             counting.begin(&event);
             Ok(())

@@ -19,7 +19,7 @@ pub fn pmd<S: Source, K: Sink>(
     ensures usage { (result ≡ Status.Usage) ↔ ¬ AreTally words.now }
     ensures usage_reads { result ≡ Status.Usage → S.left input.new ≡ S.left input.old }
     ensures usage_writes { result ≡ Status.Usage → K.written output.new ≡ K.written output.old }
-    ensures tally { AreTally words.now → S.IsTold → IsOutcome (S.left input.old) K.IsTold (K.written output.old) (K.written output.new) result }
+    ensures tally { AreTally words.now → S.IsTold → IsOutcome (S.left input.old) (S.left input.new) K.IsTold (K.written output.old) (K.written output.new) result }
 
     // Faults of the outside.
     ensures read { result ≡ Status.ReadFault → Rose (S.faults input.old) (S.faults input.new) }

@@ -19,7 +19,7 @@ returns-then-is_end-clause-read g c = λ told.
     let line = c.line.new.self.line in
     let next = subst (λ (l : Line). IsNextLine before l line after) c.in-Ok-Whole.field-0-is (c.in-Ok-Whole.ensures.line told) in
     let end : line ≡ end_line = sym c.bytes.ensures ∙ c.is_end.ensures.0 c.if-is_end.true in
-    read-ended _ before after line _ c.lines.good c.finish.result (c.lines.invariant.so_far told) next.0 end c.finish.ensures
+    read-ended _ before after line _ c.lines.good c.finish.result (c.lines.invariant.so_far told) next.0 end c.finish.ensures.ends
 
 pub lines-preserved : goal.lines-preserved
 lines-preserved g c =

@@ -5,7 +5,7 @@ use Rattle.pm_meas.specs.declared.def.Def.{Def}
 use Rattle.pm_meas.specs.Catalogue.{IsCatalogue}
 use Rattle.pm_model.specs.Slot.{slots_of_def}
 use Rattle.pm_model.proofs.SlotTableLemmas.{metric-listed}
-use Rattle.pm_model.proofs.DistinctLemmas.{slots-apart, slots-spaceless}
+use Rattle.pm_model.proofs.SlotNamesLemmas.{slots-apart, slots-spaceless}
 use Rattle.pm_model.proofs.slot_table.list_slots.Goals as goal
 
 pub loop-metric-preserved : goal.loop-metric-preserved

@@ -1,74 +1,134 @@
-use Rattle.std.proofs.Common.{◌≡◌, ◌<◌, ◌^◌, ◌+◌, ℕ, List, length, Ok, Err, inl, refl, ◌∙◌, ap, subst, arith}
+use Rattle.std.proofs.Common.{◌≡◌, ◌<◌, ◌^◌, ◌+◌, ◌∷◌, [], ℕ, List, length, Ok, Err, refl, sym, ◌∙◌, ap, subst, arith}
 use Rattle.pm_base.specs.Line.{lines_of}
-use Rattle.pm_base.specs.Feed.{left_to, IsNextLine}
-use Rattle.pm_base.specs.declared.line.Line.{Line}
-use Rattle.pm_base.specs.declared.code.Code.TheVariants.{E1}
-use Rattle.pm_base.proofs.LinesLemmas.{lines_of-next, lines_of-long}
+use Rattle.pm_base.specs.Feed.{left_to}
 use Rattle.pm_model.specs.Event.{events_of}
-use Rattle.pm_top.specs.Slots.{the_slots}
 use Rattle.pm_top.specs.Taking.{TakesLine, WritesLine}
-use Rattle.pm_top.proofs.Progress.{Progress, progress-first, progress-next, progress-refused, long_refused}
-use Rattle.pm_top.proofs.FinishLemmas.{finished, stopped}
+use Rattle.pm_top.specs.Finishing.{TakesLast, WritesLast}
+use Rattle.pm_top.specs.Outcome.{IsTallied}
+use Rattle.pm_top.specs.declared.status.Status.{Status}
+use Rattle.pm_top.proofs.Progress.{progress-first, progress-next}
+use Rattle.pm_top.proofs.EndLemmas.{end-long, end-limit, end-failed, end-stopped, end-finished, end-last, last_line, next_line}
 use Rattle.pm_top.proofs.tallying.tally_lines.Goals as goal
 
 pub lines-init : goal.lines-init
 lines-init g c = record {
   reads = omega arith;
   writes = omega arith;
-  knows_end = c.requires;
+  many = c.requires.many;
+  knows_end = c.requires.knows_end;
   total = λ _. refl;
   place = omega arith;
-  so_far = λ _. progress-first (lines_of (left_to c.args.feed.now (g.S.Source.left c.args.input.now))) c.new-counting.result g.K.Sink.IsTold (g.K.Sink.written c.args.output.now) c.new-counting.ensures;
+  so_far = λ _. progress-first c.args.slots.now c.args.first (left_to c.args.feed.now (g.S.Source.left c.args.input.now)) c.args.counting.now g.K.Sink.IsTold (g.K.Sink.written c.args.output.now) c.requires.none;
 }
 
-pub returns-in-Ok-Long-clause-tallied : goal.returns-in-Ok-Long-clause-tallied
-returns-in-Ok-Long-clause-tallied g c = λ told.
-    let before = left_to c.lines.feed (g.S.Source.left c.lines.input) in
-    let long = subst (λ (l : Line). IsNextLine before l c.line.new.self.line (left_to c.line.new.self (g.S.Source.left c.line.new.source))) c.in-Ok-Long.field-0-is (c.in-Ok-Long.ensures.line told) in
-    let parts = lines_of-long 2049 before (omega arith) (omega (arith, long.0)) long.1 in
-    let progress = c.lines.invariant.so_far told in
-    inl (progress-refused _ (lines_of before) parts.1 parts.0 c.lines.counting c.lines.place E1 _ _ (g.K.Sink.written c.lines.output) (g.K.Sink.written c.lines.output) progress parts.2 (long_refused the_slots (events_of the_slots progress.good) parts.0 (omega (arith, parts.3))) (λ _. refl))
+pub returns-in-Long-clause-tallied : goal.returns-in-Long-clause-tallied
+returns-in-Long-clause-tallied g c = λ told.
+    let slots = c.args.slots.now in
+    let all = left_to c.args.feed.now (g.S.Source.left c.args.input.now) in
+    let left = left_to c.lines.feed (g.S.Source.left c.lines.input) in
+    let rest = g.S.Source.left c.next_line.new.input in
+    let old = g.K.Sink.written c.args.output.now in
+    let new = g.K.Sink.written c.lines.output in
+    let n = c.in-Long.ensures.next told in
+    subst (λ (s : Status). IsTallied slots c.args.first c.args.feed.now.given all rest g.K.Sink.IsTold old new s) (sym c.refused.ensures)
+    (end-long slots c.args.first c.args.feed.now.given all left c.lines.counting c.lines.place g.K.Sink.IsTold old new rest new (c.lines.invariant.so_far told) n.0 n.1 (λ _. refl))
 
-pub returns-in-Ok-End-clause-tallied : goal.returns-in-Ok-End-clause-tallied
-returns-in-Ok-End-clause-tallied g c = λ told.
-    let before = left_to c.lines.feed (g.S.Source.left c.lines.input) in
-    let end = subst (λ (l : Line). IsNextLine before l c.line.new.self.line (left_to c.line.new.self (g.S.Source.left c.line.new.source))) c.in-Ok-End.field-0-is (c.in-Ok-End.ensures.line told) in
-    let progress = subst (λ (b : List ℕ). Progress (lines_of (left_to c.args.feed.now (g.S.Source.left c.args.input.now))) (lines_of b) c.lines.counting c.lines.place g.K.Sink.IsTold (g.K.Sink.written c.args.output.now) (g.K.Sink.written c.lines.output)) end.0 (c.lines.invariant.so_far told) in
-    let none : length before ≡ 0 = ap length end.0 in
-    let few : c.args.feed.now.given + length (left_to c.args.feed.now (g.S.Source.left c.args.input.now)) < 2 ^ 40 = omega (arith, c.lines.invariant.total told, none, c.line.ensures.end (c.in-Ok-End.is ∙ ap (λ (l : Line). Ok l) c.in-Ok-End.field-0-is)) in
-    finished _ c.lines.counting c.lines.place _ g.K.Sink.IsTold (g.K.Sink.written c.args.output.now) (g.K.Sink.written c.lines.output) (g.K.Sink.written c.finish.new.output) c.finish.result few progress c.finish.ensures.finished
+pub returns-in-End-clause-tallied : goal.returns-in-End-clause-tallied
+returns-in-End-clause-tallied g c = λ told.
+    let slots = c.args.slots.now in
+    let all = left_to c.args.feed.now (g.S.Source.left c.args.input.now) in
+    let left = left_to c.lines.feed (g.S.Source.left c.lines.input) in
+    let rest = g.S.Source.left c.next_line.new.input in
+    let old = g.K.Sink.written c.args.output.now in
+    let new = g.K.Sink.written c.lines.output in
+    let n = c.in-End.ensures.next told in
+    let progress = c.lines.invariant.so_far told in
+    let few : c.args.feed.now.given + length all < 2 ^ 40 = omega (arith, c.lines.invariant.total told, ap length n.0, n.1) in
+    end-finished slots c.args.first c.args.feed.now.given all left c.lines.counting c.lines.place g.K.Sink.IsTold old new rest (g.K.Sink.written c.finish.new.output) c.finish.result progress n.0 few c.finish.ensures.known
+    (λ tells. c.finish.ensures.finished tells (events_of slots progress.good) old progress.counts (progress.written tells))
+
+pub returns-in-Last-clause-tallied : goal.returns-in-Last-clause-tallied
+returns-in-Last-clause-tallied g c = λ told.
+    let slots = c.args.slots.now in
+    let all = left_to c.args.feed.now (g.S.Source.left c.args.input.now) in
+    let left = left_to c.lines.feed (g.S.Source.left c.lines.input) in
+    let rest = g.S.Source.left c.next_line.new.input in
+    let old = g.K.Sink.written c.args.output.now in
+    let new = g.K.Sink.written c.lines.output in
+    let now = g.K.Sink.written c.finish_line.new.output in
+    let line = c.next_line.new.feed.line in
+    let n = c.in-Last.ensures.next told in
+    let progress = c.lines.invariant.so_far told in
+    let events = events_of slots progress.good in
+    let few : c.args.feed.now.given + length all < 2 ^ 40 = omega (arith, c.lines.invariant.total told, n.4) in
+    let is : lines_of left ≡ line ∷ [] = ap lines_of n.1 ∙ last_line line n.0.one n.3 in
+    let taken = subst (λ (l : List ℕ). TakesLast slots events l c.lines.place c.finish_line.result) c.bytes.ensures (c.finish_line.ensures.taken events progress.counts) in
+    end-last slots c.args.first c.args.feed.now.given all left c.lines.counting c.lines.place g.K.Sink.IsTold old new line rest now c.finish_line.result progress is few taken
+    (λ tells. subst (λ (l : List ℕ). WritesLast slots events l old now c.finish_line.result) c.bytes.ensures (c.finish_line.ensures.finished tells events old progress.counts (progress.written tells)))
+
+pub returns-in-Limit-clause-tallied : goal.returns-in-Limit-clause-tallied
+returns-in-Limit-clause-tallied g c = λ told.
+    let slots = c.args.slots.now in
+    let all = left_to c.args.feed.now (g.S.Source.left c.args.input.now) in
+    let left = left_to c.lines.feed (g.S.Source.left c.lines.input) in
+    let rest = g.S.Source.left c.next_line.new.input in
+    let old = g.K.Sink.written c.args.output.now in
+    let new = g.K.Sink.written c.lines.output in
+    let n = c.in-Limit.ensures.next told in
+    subst (λ (s : Status). IsTallied slots c.args.first c.args.feed.now.given all rest g.K.Sink.IsTold old new s) (sym c.refused-in-Limit.ensures)
+    (end-limit slots c.args.first c.args.feed.now.given c.lines.feed.given all left c.lines.counting c.lines.place g.K.Sink.IsTold old new rest new (c.lines.invariant.so_far told) (c.lines.invariant.total told) n.0 n.1 n.2 (λ _. refl))
+
+pub returns-in-Failed-clause-tallied : goal.returns-in-Failed-clause-tallied
+returns-in-Failed-clause-tallied g c = λ told.
+    let slots = c.args.slots.now in
+    let all = left_to c.args.feed.now (g.S.Source.left c.args.input.now) in
+    let left = left_to c.lines.feed (g.S.Source.left c.lines.input) in
+    let rest = g.S.Source.left c.next_line.new.input in
+    let old = g.K.Sink.written c.args.output.now in
+    let new = g.K.Sink.written c.lines.output in
+    let n = c.in-Failed.ensures.next told in
+    end-failed slots c.args.first c.args.feed.now.given all left c.lines.counting c.lines.place g.K.Sink.IsTold old new c.next_line.new.feed.buffered rest new (c.lines.invariant.so_far told) (sym n.0) n.1 (λ _. refl)
 
 pub lines-preserved : goal.lines-preserved
-lines-preserved g c =
-    let given = c.line.ensures.given in
-    record {
-      reads = omega (arith, c.lines.invariant.reads, c.line.ensures.later);
-      writes = omega (arith, c.lines.invariant.writes, c.take_line.ensures.later);
-      knows_end = c.line.ensures.knows_end;
-      total = λ told. given told ∙ c.lines.invariant.total told;
-      place = omega (arith, c.lines.invariant.place, c.line.ensures.takes c.in-Ok-Whole.field-0-0 (c.in-Ok-Whole.is ∙ ap (λ (l : Line). Ok l) c.in-Ok-Whole.field-0-is));
-      so_far = λ told.
-          let before = left_to c.lines.feed (g.S.Source.left c.lines.input) in
-          let after = left_to c.line.new.self (g.S.Source.left c.line.new.source) in
-          let line = c.line.new.self.line in
-          let next = subst (λ (l : Line). IsNextLine before l line after) c.in-Ok-Whole.field-0-is (c.in-Ok-Whole.ensures.line told) in
-          let progress = c.lines.invariant.so_far told in
-          let events = events_of the_slots progress.good in
-          let bytes = c.bytes.ensures in
-          let taken = subst (λ (l : List ℕ). TakesLine events l (Ok tt) c.take_line.new.counting) bytes (c.in-Ok.ensures.taken events progress.counts) in
-          let written = λ (tells : g.K.Sink.IsTold). subst (λ (l : List ℕ). WritesLine events l (Ok tt) (g.K.Sink.written c.lines.output) (g.K.Sink.written c.take_line.new.output)) bytes (c.in-Ok.ensures.written tells events progress.counts) (g.K.Sink.written c.args.output.now) (progress.written tells) in
-          progress-next _ (lines_of before) (lines_of after) line c.lines.counting c.take_line.new.counting c.lines.place g.K.Sink.IsTold (g.K.Sink.written c.args.output.now) (g.K.Sink.written c.lines.output) (g.K.Sink.written c.take_line.new.output) progress (lines_of-next before line after next.0) taken.0 taken.1 written;
-    }
+lines-preserved g c = record {
+  reads = omega (arith, c.lines.invariant.reads, c.next_line.ensures.later);
+  writes = omega (arith, c.lines.invariant.writes, c.take_line.ensures.later);
+  many = c.take_line.ensures.many;
+  knows_end = c.next_line.ensures.knows_end;
+  total = λ told. c.next_line.ensures.given told ∙ c.lines.invariant.total told;
+  place = omega (arith, c.lines.invariant.place, c.next_line.ensures.takes c.in-Line.is);
+  so_far = λ told.
+      let slots = c.args.slots.now in
+      let all = left_to c.args.feed.now (g.S.Source.left c.args.input.now) in
+      let left = left_to c.lines.feed (g.S.Source.left c.lines.input) in
+      let after = left_to c.next_line.new.feed (g.S.Source.left c.next_line.new.input) in
+      let old = g.K.Sink.written c.args.output.now in
+      let new = g.K.Sink.written c.lines.output in
+      let now = g.K.Sink.written c.take_line.new.output in
+      let line = c.next_line.new.feed.line in
+      let n = c.in-Line.ensures.next told in
+      let progress = c.lines.invariant.so_far told in
+      let events = events_of slots progress.good in
+      let taken = subst (λ (l : List ℕ). TakesLine slots events l (Ok tt) c.take_line.new.counting) c.bytes-in-lines.ensures (c.in-Ok.ensures.taken events progress.counts) in
+      let written = λ (tells : g.K.Sink.IsTold). subst (λ (l : List ℕ). WritesLine slots events l (Ok tt) old now) c.bytes-in-lines.ensures (c.in-Ok.ensures.written tells events old progress.counts (progress.written tells)) in
+      progress-next slots c.args.first all left after line c.lines.counting c.take_line.new.counting c.lines.place g.K.Sink.IsTold old new now progress n.0 n.1 taken.0 taken.1 written;
+}
 
 pub returns-in-Err-clause-tallied : goal.returns-in-Err-clause-tallied
 returns-in-Err-clause-tallied g c = λ told.
-    let before = left_to c.lines.feed (g.S.Source.left c.lines.input) in
-    let after = left_to c.line.new.self (g.S.Source.left c.line.new.source) in
-    let line = c.line.new.self.line in
-    let next = subst (λ (l : Line). IsNextLine before l line after) c.in-Ok-Whole.field-0-is (c.in-Ok-Whole.ensures.line told) in
+    let slots = c.args.slots.now in
+    let all = left_to c.args.feed.now (g.S.Source.left c.args.input.now) in
+    let left = left_to c.lines.feed (g.S.Source.left c.lines.input) in
+    let after = left_to c.next_line.new.feed (g.S.Source.left c.next_line.new.input) in
+    let rest = g.S.Source.left c.next_line.new.input in
+    let old = g.K.Sink.written c.args.output.now in
+    let new = g.K.Sink.written c.lines.output in
+    let now = g.K.Sink.written c.take_line.new.output in
+    let line = c.next_line.new.feed.line in
+    let n = c.in-Line.ensures.next told in
     let progress = c.lines.invariant.so_far told in
-    let events = events_of the_slots progress.good in
-    let bytes = c.bytes.ensures in
-    let taken = subst (λ (l : List ℕ). TakesLine events l (Err c.in-Err.stop) c.take_line.new.counting) bytes (c.in-Err.ensures.taken events progress.counts) in
-    let written = λ (tells : g.K.Sink.IsTold). subst (λ (l : List ℕ). WritesLine events l (Err c.in-Err.stop) (g.K.Sink.written c.lines.output) (g.K.Sink.written c.take_line.new.output)) bytes (c.in-Err.ensures.written tells events progress.counts) in
-    rw c.status.ensures (stopped (lines_of (left_to c.args.feed.now (g.S.Source.left c.args.input.now))) (lines_of before) (lines_of after) line c.lines.counting c.take_line.new.counting c.lines.place (c.args.feed.now.given + length (left_to c.args.feed.now (g.S.Source.left c.args.input.now))) g.K.Sink.IsTold (g.K.Sink.written c.args.output.now) (g.K.Sink.written c.lines.output) (g.K.Sink.written c.take_line.new.output) c.in-Err.stop progress (lines_of-next before line after next.0) taken written)
+    let events = events_of slots progress.good in
+    let taken = subst (λ (l : List ℕ). TakesLine slots events l (Err c.in-Err.stop) c.take_line.new.counting) c.bytes-in-lines.ensures (c.in-Err.ensures.taken events progress.counts) in
+    let written = λ (tells : g.K.Sink.IsTold). subst (λ (l : List ℕ). WritesLine slots events l (Err c.in-Err.stop) old now) c.bytes-in-lines.ensures (c.in-Err.ensures.written tells events old progress.counts (progress.written tells)) in
+    subst (λ (s : Status). IsTallied slots c.args.first c.args.feed.now.given all rest g.K.Sink.IsTold old now s) (sym c.status.ensures)
+    (end-stopped slots c.args.first c.args.feed.now.given all left c.lines.counting c.take_line.new.counting c.lines.place g.K.Sink.IsTold old new line rest now (lines_of after) c.in-Err.stop progress (next_line left line after n.0.one n.1) taken written)

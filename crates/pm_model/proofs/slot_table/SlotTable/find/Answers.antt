@@ -4,7 +4,7 @@ use Rattle.std.specs.Str.{bytes_eq}
 use Rattle.pm_model.specs.Slot.{Slot, slot_place}
 use Rattle.pm_model.specs.SlotNames.{slot_names, names_place, HasNoSpace, AreSpaceless}
 use Rattle.pm_model.proofs.SlotLemmas.{position-within}
-use Rattle.pm_model.proofs.DistinctLemmas.{slot_place-names}
+use Rattle.pm_model.proofs.SlotNamesLemmas.{slot_place-names}
 use Rattle.pm_model.proofs.slot_table.SlotTable.find.Goals as goal
 
 within : (slots : List Slot) (names : List ℕ) (slot : ℕ) → names_place slots names ≡ Some slot → slot < length slots

@@ -2,7 +2,7 @@ use Rattle.std.proofs.Common.{◌<◌, length, ap, arith}
 use Rattle.pm_model.specs.Slot.{event_slots}
 use Rattle.pm_model.specs.SlotTableFields.{IsTable}
 use Rattle.pm_model.proofs.SlotTableLemmas.{table-of}
-use Rattle.pm_model.proofs.DistinctLemmas.{length-slots}
+use Rattle.pm_model.proofs.SlotNamesLemmas.{length-slots}
 use Rattle.pm_model.proofs.slot_table.SlotTable.new.Goals as goal
 
 pub places_of-requires : goal.places_of-requires

@@ -1,0 +1,7 @@
+pub mod Entries
+pub mod Words
+pub mod Views
+pub mod Rule
+pub mod Steps
+pub mod Run
+pub mod Registering

@@ -1,0 +1,11 @@
+pub mod TargetLemmas
+pub mod PatternLemmas
+pub mod ResourceLemmas
+pub mod RouteLemmas
+pub mod ReplyLemmas
+pub mod FieldLemmas
+pub mod HeadLemmas
+pub mod GatherLemmas
+pub mod StepLemmas
+pub mod PieceLemmas
+pub mod ReadLemmas

@@ -1,0 +1,18 @@
+use Rattle.std.proofs.Common.{◌≡◌, ◌<◌, length, vec_len, ap, sym, arith, refl}
+use Rattle.pm_http.proofs.StepLemmas.{first_piece}
+use Rattle.pm_http.proofs.head_end.read_head.Goals as goal
+
+pub pieces-init : goal.pieces-init
+pieces-init g c = record {
+  few = omega (arith, c.args.head.now.ok.0, ap length c.requires.empty);
+  gathers = λ told. rw c.requires.empty (first_piece _);
+  given = λ told. refl;
+  knows_end = c.requires.knows_end;
+  later = omega arith;
+}
+
+pub returns-in-Some-clause-ends : goal.returns-in-Some-clause-ends
+returns-in-Some-clause-ends g c =
+    λ told.
+    let steps = c.in_ok-end.ensures.steps told _ (c.pieces.invariant.gathers told) in
+    rw c.in-Some.is at steps

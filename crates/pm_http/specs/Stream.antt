@@ -1,0 +1,79 @@
+-- The requests of a stream of bytes, from its front (RFC 9112; the codes and the limits are this project's own).
+use Rattle.std.specs.Prelude.{◌≡◌, ◌<◌, ◌≤◌, ◌⊎◌, ◌+◌, ◌-◌, ℕ, List, [], ◌++◌, length, take}
+use Rattle.httparse.specs.Grammar.{RequestHead, print_request, ReadsRequest, HasNoRequest, NeverHasRequest}
+use Rattle.pm_base.specs.declared.code.Code.{Code}
+use Rattle.pm_base.specs.declared.code.Code.TheVariants.{H1, H2}
+use Rattle.pm_http.specs.declared.size.BodySize.TheVariants.{Refused, Bytes}
+use Rattle.pm_http.specs.declared.request.Request.{Request}
+use Rattle.pm_http.specs.declared.next.Next.{Next}
+use Rattle.pm_http.specs.declared.next.Next.TheVariants as next
+use Rattle.pm_http.specs.Head.{fields_of, body_size, moment_of, closes}
+
+-- The bytes in which a head has to end.
+abbrev pub looked_at : List ℕ → List ℕ
+looked_at bytes = take 16384 bytes
+
+-- A whole head stands at the front. There is at most one.
+abbrev pub HasHead : List ℕ → RequestHead → Type 0
+HasHead bytes head = (rest : List ℕ) × ReadsRequest (looked_at bytes) head rest
+
+-- The parts of a request but its body are those of the head.
+pub record IsOf (head : RequestHead) (request : Request) : Type 0 where
+  pub method : request.method ≡ head.method
+  pub target : request.target ≡ head.target
+  pub moment : request.moment ≡ moment_of (fields_of head)
+  pub close : request.close ≡ closes head.minor (fields_of head)
+
+-- The request is the one at the front of the bytes, and this is left behind it.
+pub record IsFirst (bytes : List ℕ) (request : Request) (after : List ℕ) : Type 0 where
+  pub head : RequestHead
+  pub reads : ReadsRequest bytes head (request.body ++ after)
+  pub short : length (print_request head) ≤ 16384
+  pub size : body_size head ≡ Bytes (length request.body)
+  pub parts : IsOf head request
+
+-- The bytes that are looked at hold no whole head: none that may follow give one, or there are enough of them.
+abbrev pub HasNoHead : List ℕ → Code → Type 0
+HasNoHead bytes H1 = NeverHasRequest (looked_at bytes)
+HasNoHead bytes H2 = (16384 ≤ length bytes) × HasNoRequest (looked_at bytes)
+HasNoHead bytes _ = ⊥
+
+-- The request at the front is refused by this code: it has no head, or its head breaks a rule.
+abbrev pub IsRefused : List ℕ → Code → Type 0
+IsRefused bytes code =
+    HasNoHead bytes code ⊎ ((head : RequestHead) × HasHead bytes head × (body_size head ≡ Refused code))
+
+-- The bytes end inside a head.
+pub record EndsInHead (bytes : List ℕ) : Type 0 where
+  pub begun : 0 < length bytes
+  pub few : length bytes < 16384
+  pub unended : HasNoRequest bytes
+
+-- The bytes end inside the body of a request.
+pub record EndsInBody (bytes : List ℕ) : Type 0 where
+  pub head : RequestHead
+  pub body : List ℕ
+  pub size : ℕ
+  pub reads : ReadsRequest bytes head body
+  pub short : length (print_request head) ≤ 16384
+  pub size_is : body_size head ≡ Bytes size
+  pub less : length body < size
+
+-- What the bytes from this offset on begin with, and what is left behind it: a request, the end, a refusal, or a request
+-- that is cut short. The cases exclude each other, but that H1 may stand where H2 or a cut does.
+abbrev pub IsNext : List ℕ → ℕ → Next → List ℕ → Type 0
+IsNext bytes offset (next.Request request) after = IsFirst bytes request after
+IsNext bytes offset next.End after = (bytes ≡ []) × (after ≡ [])
+IsNext bytes offset (next.Framing code at) after = (at ≡ offset) × IsRefused bytes code
+IsNext bytes offset (next.CutShort at) after = (at ≡ offset) × (EndsInHead bytes ⊎ EndsInBody bytes)
+
+-- Where an offset is told, it is that of the first byte.
+abbrev pub IsPlaced : ℕ → Next → Type 0
+IsPlaced offset (next.Framing code at) = at ≡ offset
+IsPlaced offset (next.CutShort at) = at ≡ offset
+IsPlaced offset _ = Unit {0}
+
+-- The body of a request has at most 16,777,216 bytes.
+abbrev pub IsSmall : Next → Type 0
+IsSmall (next.Request request) = length request.body ≤ 16777216
+IsSmall _ = Unit {0}

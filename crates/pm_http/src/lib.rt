@@ -1,0 +1,36 @@
+//! Requests read from a stream of bytes, the routes that they take, and the replies that are written.
+#![tactic(auto)]
+
+mod body;
+mod connection;
+mod cutting;
+mod error;
+mod fields;
+mod head_end;
+mod kind;
+mod method;
+mod next;
+mod piece;
+mod pushing;
+mod reading;
+mod reply;
+mod replying;
+mod request;
+mod resource;
+mod routes;
+mod routing;
+mod sight;
+mod size;
+mod taking;
+#[cfg(test)]
+mod tests;
+mod trimming;
+
+pub use error::{HttpError, ReplyError, RouteError};
+pub use next::Next;
+pub use reading::next_request;
+pub use reply::Reply;
+pub use replying::write_reply;
+pub use request::Request;
+pub use routes::Route;
+pub use routing::route;

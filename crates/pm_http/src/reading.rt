@@ -1,0 +1,145 @@
+//! The reading of requests.
+ghost use Rattle.std.specs.Prelude.{◌≡◌, ◌≤◌, ◌+◌, ℕ, List, [], Err, length, map, IfOk};
+ghost use Rattle.std.specs.List.{All};
+ghost use Rattle.httparse.specs.Grammar.{RequestHead};
+ghost use Rattle.httparse.specs.Spans.{IsRequestAt, IsHeaderWithin, header_bytes};
+ghost use Rattle.pm_base.specs.Causes.{Rose};
+ghost use Rattle.pm_base.specs.Feed.{left_to, KnowsEnd};
+ghost use Rattle.pm_http.specs.Head.{body_size, first_of, values_of, IsWithinLimit};
+ghost use Rattle.pm_http.specs.Stream.{IsNext, IsPlaced, IsSmall, IsOf};
+ghost use Rattle.pm_http.specs.Piece.{IsGathered, IsParsed};
+
+use crate::body::{body_room, fill};
+use crate::connection::is_closing;
+use crate::fields::{Values, values_named};
+use crate::head_end::{HeadEnd, read_head};
+use crate::sight::field_room;
+use crate::size::{BodySize, read_size};
+use crate::{HttpError, Next, Request};
+use httparse::spans::{HeaderSpan, RequestSpans};
+use pm_base::{Blob, Code, Feed, Source, Text};
+use std::alloc::{AllocError, Global};
+
+/// Reads the next request. `offset` in the answer is that of its first byte, counted from the first that the feed gave.
+/// After an error, a framing refusal or a cut, bytes may have been taken, and the feed is of no more use.
+pub fn next_request<S: Source>(
+    alloc: Global,
+    feed: &mut Feed,
+    source: &mut S,
+) -> Result<Next, HttpError>
+    requires { S.IsTold → KnowsEnd feed.old (S.left source.old) }
+    ensures next { S.IsTold → IfOk result (λ next. IsNext (left_to feed.old (S.left source.old)) feed.old.given next (left_to feed.new (S.left source.new))) }
+    ensures placed { IfOk result (IsPlaced feed.old.given) }
+    ensures small { IfOk result IsSmall }
+    ensures given { S.IsTold → feed.new.given + length (left_to feed.new (S.left source.new)) ≡ feed.old.given + length (left_to feed.old (S.left source.old)) }
+    ensures knows_end { S.IsTold → KnowsEnd feed.new (S.left source.new) }
+    ensures failed { result ≡ Err HttpError.ReadFault → Rose (S.faults source.old) (S.faults source.new) }
+    ensures later { S.faults source.old ≤ S.faults source.new }
+{
+    let offset = feed.given();
+    let Ok(mut fields) = field_room(alloc) else {
+        return Err(HttpError::Memory);
+    };
+    let mut head = Vec::new(alloc);
+    match read_head(alloc, feed, source, &mut head, &mut fields)? {
+        HeadEnd::Whole(spans) => { read_rest(alloc, feed, source, &head, &fields, spans, offset) }
+        HeadEnd::Crowded | HeadEnd::Long => Ok(Next::Framing {
+            code: Code::H2,
+            offset,
+        }),
+        HeadEnd::Never => Ok(Next::Framing {
+            code: Code::H1,
+            offset,
+        }),
+        HeadEnd::Short => Ok(Next::CutShort { offset }),
+        HeadEnd::Nothing => Ok(Next::End),
+    }
+}
+
+// Reads what follows a whole head.
+fn read_rest<S: Source>(
+    alloc: Global,
+    feed: &mut Feed,
+    source: &mut S,
+    head: &[u8],
+    fields: &[HeaderSpan],
+    spans: RequestSpans,
+    offset: u64,
+) -> Result<Next, HttpError>
+    requires knows_end { S.IsTold → KnowsEnd feed.old (S.left source.old) }
+    requires parsed { IsParsed head.now fields.now spans }
+    ensures next { S.IsTold → (all : List ℕ) → IsGathered all head.now (left_to feed.old (S.left source.old)) fields.now spans → IfOk result (λ next. IsNext all offset next (left_to feed.new (S.left source.new))) }
+    ensures placed { IfOk result (IsPlaced offset) }
+    ensures small { IfOk result IsSmall }
+    ensures given { S.IsTold → feed.new.given + length (left_to feed.new (S.left source.new)) ≡ feed.old.given + length (left_to feed.old (S.left source.old)) }
+    ensures knows_end { S.IsTold → KnowsEnd feed.new (S.left source.new) }
+    ensures failed { result ≡ Err HttpError.ReadFault → Rose (S.faults source.old) (S.faults source.new) }
+    ensures later { S.faults source.old ≤ S.faults source.new }
+{
+    match size_by_head(head, fields, spans) {
+        BodySize::Refused(code) => Ok(Next::Framing { code, offset }),
+        BodySize::Bytes(size) => {
+            let Ok(mut body) = body_room(alloc, size as usize) else {
+                return Err(HttpError::Memory);
+            };
+            if !fill(feed, source, &mut body)? {
+                return Ok(Next::CutShort { offset });
+            }
+            match request_of(alloc, head, fields, spans, body) {
+                Ok(request) => Ok(Next::Request(request)),
+                Err(_) => Err(HttpError::Memory),
+            }
+        }
+    }
+}
+
+// The length of the body, by a head of at most 64 fields.
+fn size_by_head(head: &[u8], fields: &[HeaderSpan], spans: RequestSpans) -> BodySize
+    requires { IsParsed head.now fields.now spans }
+    ensures size { (h : RequestHead) → IsRequestAt head.now fields.now spans h → result ≡ body_size h }
+    ensures limit { IsWithinLimit result }
+{
+    read_size(head, spans.method.of(head), &fields[..spans.headers])
+}
+
+// The request of a head and a body.
+fn request_of(
+    alloc: Global,
+    head: &[u8],
+    fields: &[HeaderSpan],
+    spans: RequestSpans,
+    body: Vec<u8>,
+) -> Result<Request, AllocError>
+    requires { IsParsed head.now fields.now spans }
+    ensures head { (h : RequestHead) → IsRequestAt head.now fields.now spans h → IfOk result (IsOf h) }
+    ensures body { IfOk result (λ request. request.body ≡ body.items) }
+{
+    let fields = &fields[..spans.headers];
+    Ok(Request {
+        method: Text::from_slice(alloc, spans.method.of(head))?,
+        target: Text::from_slice(alloc, spans.path.of(head))?,
+        moment: first_value(alloc, head, fields, b"pm-moment")?,
+        close: is_closing(head, spans.version, fields),
+        body: Blob::from_vec(body),
+    })
+}
+
+// The value of the first field of this name.
+fn first_value(
+    alloc: Global,
+    head: &[u8],
+    fields: &[HeaderSpan],
+    name: &[u8],
+) -> Result<Option<Text>, AllocError>
+    requires within { All (IsHeaderWithin (length head.now)) fields.now }
+    requires short { All (IsHeaderWithin 16384) fields.now }
+    ensures { IfOk result (λ value. value ≡ first_of (values_of name.now (map (header_bytes head.now) fields.now))) }
+{
+    match values_named(head, fields, name) {
+        Values::None => Ok(None),
+        Values::One(value) | Values::More(value) => Ok(Some(Text::from_slice(
+            alloc,
+            value.of(head),
+        )?)),
+    }
+}

@@ -1,0 +1,7 @@
+use Rattle.std.proofs.Common.{◌≡◌, take}
+use Rattle.pm_model.specs.History.{history_of}
+use Rattle.pm_model.specs.Standing.{ids_after}
+use Rattle.pm_slow.proofs.ids.ids_after.Given as goal
+
+abbrev pub invariant-loop-entry : goal.invariant-loop-entry
+invariant-loop-entry l = l.ids.items ≡ ids_after l.side (history_of (take l.entry-index l.history))
