@@ -17,3 +17,5 @@ pub mod DistinctLemmas
 pub mod SumLemmas
 pub mod ConservedLemmas
 pub mod BodyLemmas
+pub mod LineLawLemmas
+pub mod ReadingLawLemmas

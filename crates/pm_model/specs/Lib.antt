@@ -10,6 +10,7 @@ pub mod InventoryFields
 pub mod Default
 pub mod Reading
 pub mod ReadingLines
+pub mod ReadingLaw
 pub mod Entry
 pub mod History
 pub mod Terms

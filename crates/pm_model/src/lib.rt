@@ -6,6 +6,7 @@ mod entry;
 mod event;
 mod event_line;
 mod inventory;
+mod inventory_law;
 mod law;
 mod line;
 mod listing;
@@ -19,6 +20,7 @@ pub use entry::{Entry, Side};
 pub use event::Event;
 pub use event_line::{EventLine, read_event_line};
 pub use inventory::{InvError, Inventory, SLOTS};
+pub use inventory_law::{never_refused, one_inventory, one_refusal};
 pub use law::{
     bodies_read_back, crossings_agree, files_distinct, files_grow, notices_grow, sums_conserved,
 };
