@@ -41,8 +41,8 @@ events_in-none (e ∷ events) moment tick ordered past =
     let differs : tick_of e.moment ≢ tick = λ is. omega (arith, first, past, is) in
     ap (λ (v : Bool). cond v (e ∷ events_in events tick) (events_in events tick)) (eqb_other (tick_of e.moment) tick differs) ∙ events_in-none events moment tick later past
 
--- a filtered list is not longer
-filter_shorter : {A : Type 0} (p : A → Bool) (xs : List A) → length (filter p xs) ≤ length xs
+-- A filtered list is not longer.
+pub filter_shorter : {A : Type 0} (p : A → Bool) (xs : List A) → length (filter p xs) ≤ length xs
 filter_shorter p [] = omega arith
 filter_shorter p (x ∷ xs) =
     elim (p x) as (λ v. length (cond v (x ∷ filter p xs) (filter p xs)) ≤ length (x ∷ xs)) [

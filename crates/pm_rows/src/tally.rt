@@ -7,15 +7,18 @@ use std::alloc::{AllocError, Global};
 use std::process::Abort;
 use std::test::Fail;
 
-// What the tables write `c7` and `Att` for.
+// What the tables write `c7`, `d7` and `Att` for.
 const CELL: &str = "ManagedElement=ME1,GNBCUCPFunction=1,NRCellCU=7";
+
+const DU_CELL: &str = "ManagedElement=ME1,GNBDUFunction=1,NRCellDU=7";
 
 const ATTEMPTS: &str = "RRC.ConnEstabAtt.mo-Data";
 
 const ROOM: u64 = 65536;
 
 fn spelled(alloc: Global, short: &str) -> Result<String, AllocError> {
-    let named = short.replace(alloc, "c7", CELL)?;
+    let cells = short.replace(alloc, "c7", CELL)?;
+    let named = cells.replace(alloc, "d7", DU_CELL)?;
     named.replace(alloc, "Att", ATTEMPTS)
 }
 
@@ -60,20 +63,19 @@ fn the_rows_are_tallied_as_by_hand(rt: HostRuntime) -> Result<(), Fail> {
         ),
         ("end\n", "", Status::Done),
         (
-            "",
-            "",
-            Status::BadInventory {
-                line: 1,
-                code: Code::I2,
-            },
+            "end\n60 c7 RRC.ConnMax 3\n60 c7 RRC.ConnMax 4\n60 c7 RRC.ConnMean 3\n60 c7 RRC.ConnMean 4\n",
+            "60 c7 RRC.ConnMean 3\n60 c7 RRC.ConnMax 4\n",
+            Status::Done,
         ),
         (
-            "object x\n",
+            "end\n60 d7 VS.SetupTime 10\n60 d7 VS.SetupTime 20\n60 d7 VS.SetupTime 30\n60 d7 VS.SetupTime 40\n",
+            "60 d7 VS.SetupTime 30\n",
+            Status::Done,
+        ),
+        (
+            "end\n60 d7 VS.SetupTime 10\n60 d7 VS.SetupTime 20\n120 d7 VS.SetupTime 30\n",
             "",
-            Status::BadInventory {
-                line: 1,
-                code: Code::I1,
-            },
+            Status::Done,
         ),
         (
             "end\n1699999200 c7 Att 1\n1699999261 c7 Att\n",
@@ -114,7 +116,7 @@ fn other_words_than_tally_alone_are_refused(rt: HostRuntime) -> Result<(), Fail>
 }
 
 // A source that gives so many bytes at a time ends as the plain tally of its bytes does.
-fn compare(rt: &impl Abort, alloc: Global, input: &[u8], at: usize) -> Result<Status, Fail> {
+pub fn compare(rt: &impl Abort, alloc: Global, input: &[u8], at: usize) -> Result<Status, Fail> {
     assert!(rt; input.len() < 1_099_511_627_776);
     let plain = plain_tally(alloc, input)?;
     let tally = words(alloc, &["tally"])?;
@@ -205,6 +207,34 @@ fn faults_end_a_tally_behind_the_lines_of_ended_ticks(rt: HostRuntime) -> Result
     );
     assert_eq!(rt; sink.written(), b"".as_slice());
     assert_eq!(rt; sink.faults(), 1);
+    Ok(())
+}
+
+// The lines of an inventory that is refused at one of them, and by which rule.
+const REFUSED: [(&str, u64, Code); 8] = [
+    ("", 1, Code::I2),
+    ("objects x\n", 1, Code::I1),
+    ("object ManagedElement=ME1\n", 2, Code::I2),
+    ("object ManagedElement=ME1\nend\n", 2, Code::M5),
+    ("measure A.b NRCellCU CC SUM\nend\n", 2, Code::N10),
+    ("measure RRC NRCellCU CC SUM\n", 1, Code::M1),
+    ("measure A.b NRCellCU CC MEAN\n", 1, Code::M2),
+    (
+        "measure A.b NRCellCU CC SUM\nmeasure A.b NRCellCU SI MAX\n",
+        2,
+        Code::M3,
+    ),
+];
+
+#[test]
+fn an_inventory_is_refused_at_its_line(rt: HostRuntime) -> Result<(), Fail> {
+    for (input, line, code) in REFUSED {
+        assert_eq!(rt;
+            compare(&rt, rt.alloc(), input.as_bytes(), 0)?,
+            Status::BadInventory { line, code },
+            "at {input:?}"
+        );
+    }
     Ok(())
 }
 

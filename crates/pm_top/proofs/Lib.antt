@@ -8,3 +8,4 @@ pub mod Progress
 pub mod EndLemmas
 pub mod WordsLemmas
 pub mod OutcomeLemmas
+pub mod PlainLemmas

@@ -49,6 +49,11 @@ pub tick_lines-none : (slots : List Slot) (events : List Event) (tick : ℕ) →
 unfolding lines_of_events
 tick_lines-none slots events tick none = ap (lines_of_events slots tick) (registered-none slots events tick none) ∙ no_lines slots tick 0
 
+-- Where none of them is registered.
+pub tick_lines-empty : (slots : List Slot) (events : List Event) (tick : ℕ) → events_in (registered slots events) tick ≡ [] → tick_lines slots events tick ≡ []
+unfolding lines_of_events
+tick_lines-empty slots events tick none = ap (lines_of_events slots tick) none ∙ no_lines slots tick 0
+
 tick_lines-same : (slots : List Slot) (events more : List Event) (tick : ℕ) → events_in (registered slots more) tick ≡ events_in (registered slots events) tick → tick_lines slots more tick ≡ tick_lines slots events tick
 unfolding lines_of_events
 tick_lines-same slots events more tick same = ap (lines_of_events slots tick) same

@@ -7,3 +7,4 @@ pub mod Finishing
 pub mod Outcome
 pub mod Words
 pub mod StatusText
+pub mod Plain

@@ -5,6 +5,9 @@ mod counting;
 mod event;
 mod lines;
 mod next;
+mod plain;
+mod plain_events;
+mod plain_text;
 mod slot_count;
 mod status;
 mod status_text;
@@ -12,6 +15,7 @@ mod taking;
 mod tallying;
 mod top;
 
+pub use plain::{PlainTally, plain_tally};
 pub use status::Status;
 pub use tallying::tally;
 pub use top::pmd;
