@@ -13,6 +13,7 @@ mod making;
 mod notice;
 mod print;
 mod report;
+mod sequence;
 mod standing;
 mod terms;
 #[cfg(test)]

@@ -1,22 +1,21 @@
 //! The crossings of monitors, period by period.
-ghost use Rattle.std.specs.Prelude.{◌≡◌, ◌+◌, ◌-◌, ◌*◌, ◌<◌, ◌^◌, ◌++◌, length, Some, IfOk, OnOk, option_to_list};
+ghost use Rattle.std.specs.Prelude.{◌≡◌, ◌-◌, ◌*◌, ◌<◌, ◌^◌, ◌++◌, length, Some, IfOk, OnOk, option_to_list};
 ghost use Rattle.std.specs.List.{flat_map};
 ghost use Rattle.pm_model.specs.History.{history_of};
 ghost use Rattle.pm_model.specs.Crossed.{crossing_in};
-ghost use Rattle.pm_model.specs.Notices.{crossed, crossed_last, value_at, value_sequence, crossing_at, crossings_by, crossings_of, crossings_under, crossings_at};
+ghost use Rattle.pm_model.specs.Notices.{crossed, crossed_last, crossing_at, crossings_by, crossings_of, crossings_under, crossings_at};
 ghost use Rattle.pm_slow.specs.Book.{terms_in};
 
 use crate::book::Book;
-use crate::counted::is_suspect;
 use crate::crossing::crossing_in;
 use crate::history::before;
 use crate::ids::ids_after;
 use crate::making::Making;
+use crate::sequence::{value_at, value_sequence};
 use crate::standing::{Standing, standing_after};
 use crate::terms::Watched;
-use crate::value::measured_value;
-use pm_base::{Text, tick};
-use pm_model::{Entry, Metric, Side};
+use pm_base::Text;
+use pm_model::{Entry, Side};
 use std::alloc::{AllocError, Global};
 use std::marker::Model;
 
@@ -54,85 +53,6 @@ impl Model for Crossed {
       limit = c.limit;
       hysteresis = c.hysteresis;
     } };
-}
-
-// The value of the granularity period that ends with a tick, unless it is null or suspect.
-fn value_at(
-    alloc: Global,
-    book: &Book,
-    history: &[Entry],
-    w: &Making,
-    granularity: u64,
-    object: u16,
-    metric: Metric,
-    end: u64,
-) -> Result<Option<u64>, AllocError>
-    requires few { length history.now < 2 ^ 32 }
-    requires moments { 60 * end < 2 ^ 64 }
-    ensures { IfOk result (λ v. option_to_list v ≡ value_at (terms_in book.now) (history_of history.now) w.now granularity object metric end) }
-{
-    if granularity > 0
-        && granularity <= end
-        && end % granularity == 0
-        && !is_suspect(book, history, w, end - granularity, granularity)
-    {
-        measured_value(
-            alloc,
-            book,
-            history,
-            w,
-            object,
-            metric,
-            end - granularity,
-            granularity,
-        )
-    } else {
-        Ok(None)
-    }
-}
-
-fn push_value(values: &mut Vec<u64>, value: Option<u64>) -> Result<(), AllocError>
-    ensures { OnOk result (values.new.items ≡ values.old.items ++ option_to_list value) }
-{
-    if let Some(value) = value {
-        values.push(value)?;
-    }
-    Ok(())
-}
-
-/// The values of the periods that end behind the tick at which the monitor was armed, up to a tick.
-fn value_sequence(
-    alloc: Global,
-    book: &Book,
-    history: &[Entry],
-    w: &Making,
-    granularity: u64,
-    object: u16,
-    metric: Metric,
-    armed: u64,
-    end: u64,
-) -> Result<Vec<u64>, AllocError>
-    requires few { length history.now < 2 ^ 32 }
-    requires moments { 60 * end < 2 ^ 64 }
-    ensures { IfOk result (λ v. v.items ≡ value_sequence (terms_in book.now) (history_of history.now) w.now granularity object metric armed end) }
-{
-    let from = tick(armed);
-    let count = end.saturating_sub(from);
-    let mut values = Vec::new(alloc);
-    for k in 0..count {
-        let value = value_at(
-            alloc,
-            book,
-            history,
-            w,
-            granularity,
-            object,
-            metric,
-            from + k + 1,
-        )?;
-        push_value(&mut values, value)?;
-    }
-    Ok(values)
 }
 
 fn in_direction(
