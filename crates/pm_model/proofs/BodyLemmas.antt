@@ -4,7 +4,8 @@ use Rattle.std.proofs.lemmas.Bool.{cond-true, and_from}
 use Rattle.std.specs.List.{AllByRecursion}
 use Rattle.std.specs.Option.{option_map, option_and_then}
 use Rattle.serde_json.specs.Data.{number, string, array, unsigned}
-use Rattle.pm_model.specs.Body.{Directions, Up, Down, UpAndDown, Threshold, JobBody, MonitorBody, text_items, state_text, directions_text, job_tree, threshold_tree, threshold_items, monitor_tree, number_of, texts_of, list_of, state_of, directions_of, job_of, threshold_of, thresholds_of, threshold_list_of, monitor_of, IsJobBody, IsThreshold, IsMonitorBody}
+use Rattle.pm_model.specs.Body.{Directions, Up, Down, UpAndDown, Threshold, JobBody, MonitorBody, text_items, state_text, directions_text, job_tree, threshold_tree, threshold_items, monitor_tree, IsJobBody, IsThreshold, IsMonitorBody}
+use Rattle.pm_model.specs.BodyReading.{number_of, texts_of, list_of, state_of, directions_of, job_of, threshold_of, thresholds_of, threshold_list_of, monitor_of}
 
 within : {A : Type 0} (n most : ℕ) (a : A) → n ≤ most → cond (leb n most) (Some a) None ≡ Some a
 within n most a le = cond-true (leb n most) (Some a) None (le-leb n most le)

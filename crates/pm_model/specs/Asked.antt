@@ -15,7 +15,8 @@ use Rattle.pm_model.specs.declared.entry.Side.{Side}
 use Rattle.pm_model.specs.declared.entry.Side.TheVariants.{Job, Monitor}
 use Rattle.pm_model.specs.declared.metric.Metric.{Metric}
 use Rattle.pm_model.specs.Terms.{Terms, Measured, Watched}
-use Rattle.pm_model.specs.Body.{Directions, Up, Down, UpAndDown, Threshold, JobBody, MonitorBody, job_body, monitor_body}
+use Rattle.pm_model.specs.Body.{Directions, Up, Down, UpAndDown, Threshold, JobBody, MonitorBody}
+use Rattle.pm_model.specs.BodyReading.{job_body, monitor_body}
 
 -- A metric with its number.
 abbrev pub Numbered : Type 0

@@ -24,6 +24,7 @@ pub mod Notices
 pub mod Conserved
 pub mod Laws
 pub mod Body
+pub mod BodyReading
 pub mod Asked
 pub use Rattle.pm_dn.specs.Tree
 pub use Rattle.pm_dn.specs.Containment

@@ -1,5 +1,5 @@
 //! What holds of every history, whatever its bodies ask for.
-ghost use Rattle.pm_model.specs.Body.{BodiesReadBack};
+ghost use Rattle.pm_model.specs.BodyReading.{BodiesReadBack};
 ghost use Rattle.pm_model.specs.Conserved.{SumsConserved};
 ghost use Rattle.pm_model.specs.Laws.{CrossingsAgree, FilesDistinct, FilesGrow, NoticesGrow};
 

@@ -13,20 +13,23 @@ mod making;
 mod notice;
 mod print;
 mod report;
+mod sequence;
 mod standing;
 mod terms;
 #[cfg(test)]
 mod tests;
 mod value;
+mod watching;
 
 pub use book::{Book, Meaning};
 pub use counted::{is_counted, is_suspect, some_counted};
 pub use crossing::{crosses_down, crosses_up, crossing_in};
 pub use file::files;
 pub use making::Making;
-pub use notice::{Crossed, Notice, crossings_at, notices};
+pub use notice::{Notice, notices};
 pub use print::print_notices;
 pub use report::{Group, Part, Report, Row};
 pub use standing::Standing;
 pub use terms::{Measured, Terms, Watched};
 pub use value::{counted_values, measured_value};
+pub use watching::{Crossed, crossings_at};

@@ -7,8 +7,9 @@
 //!     notices N                                       last, with their number
 //!
 //! BEGIN and END are moments. Objects and metrics are numbers of the inventory, thresholds numbers in their monitor's list.
-use crate::notice::{Crossed, Notice};
+use crate::notice::Notice;
 use crate::report::{Group, Part, Report, Row};
+use crate::watching::Crossed;
 use pm_base::TICK_SECONDS;
 use std::alloc::{AllocError, Global};
 
