@@ -6,7 +6,7 @@ use Rattle.pm_bank.specs.declared.view.View.{View}
 use Rattle.pm_bank.specs.declared.view.Numbers.{Numbers}
 use Rattle.pm_bank.specs.declared.view.Entry.{Entry}
 use Rattle.pm_bank.specs.Entries.{AreUpTo}
-use Rattle.pm_bank.specs.Views.{KeeperView, Meets}
+use Rattle.pm_bank.specs.Views.{Meets}
 use Rattle.pm_bank.specs.Steps.{IsKeeping, IsPass, Settles, meets, keeper_view}
 
 -- what holds of all joined entries holds of the later ones
