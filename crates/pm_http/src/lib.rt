@@ -7,6 +7,8 @@ mod cutting;
 mod error;
 mod fields;
 mod head_end;
+#[cfg(test)]
+mod head_tests;
 mod kind;
 mod method;
 mod next;
@@ -22,6 +24,8 @@ mod routes;
 mod routing;
 mod sight;
 mod size;
+#[cfg(test)]
+mod stream_tests;
 mod taking;
 #[cfg(test)]
 mod tests;
