@@ -7,7 +7,7 @@ use pm_base::Code;
 use pm_model::{Event, EventLine, SlotTable, read_event_line};
 
 /// The greatest value of an event.
-const GREATEST_VALUE: u64 = 1_048_575;
+pub const GREATEST_VALUE: u64 = 1_048_575;
 
 /// Reads a line `MOMENT LDN METRIC VALUE`: an event, or the first rule that the line breaks by itself, of E1 (the form), E2
 /// (no such slot) and E3 (a value over 1,048,575).

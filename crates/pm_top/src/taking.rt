@@ -8,7 +8,7 @@ ghost use Rattle.pm_top.specs.Taking.{TakesLine, WritesLine, stop_status};
 
 use crate::Status;
 use crate::counting::Counting;
-use crate::event::read;
+use crate::last_moment::LastMoment;
 use crate::lines::{Fault, write_tick};
 use pm_base::{Code, Sink, tick};
 use pm_model::SlotTable;
@@ -41,6 +41,7 @@ impl Stop {
 /// first.
 pub fn take_line<K: Sink>(
     slots: &SlotTable,
+    last: &mut LastMoment,
     counting: &mut Counting,
     text: &mut Vec<u8>,
     line: &[u8],
@@ -53,7 +54,7 @@ pub fn take_line<K: Sink>(
     ensures fault { result ≡ Err Stop.WriteFault → Rose (K.faults output.old) (K.faults output.new) }
     ensures later { K.faults output.old ≤ K.faults output.new }
 {
-    let event = match read(slots, line) {
+    let event = match last.read(slots, line) {
         Ok(event) => event,
         Err(code) => return Err(Stop::Refused(code)),
     };

@@ -12,6 +12,7 @@ ghost use Rattle.pm_top.specs.Finishing.{IsEnd, IsLastEnd, Finishes, TakesLast, 
 
 use crate::Status;
 use crate::counting::Counting;
+use crate::last_moment::LastMoment;
 use crate::lines::{Fault, write_tick};
 use crate::next::{Next, next_line};
 use crate::taking::take_line;
@@ -42,17 +43,26 @@ fn tally_lines<S: Source, K: Sink>(
     ensures write { result ≡ Status.WriteFault → Rose (K.faults output.old) (K.faults output.new) }
     ensures later { (S.faults input.old ≤ S.faults input.new) × (K.faults output.old ≤ K.faults output.new) }
 {
+    let mut last = LastMoment::new();
     let mut place = first;
     'lines: loop {
         match next_line(feed, input) {
             Next::Line => {}
-            Next::Last => return finish_line(slots, counting, text, feed.bytes(), place, output),
+            Next::Last => return finish_line(
+                slots,
+                &mut last,
+                counting,
+                text,
+                feed.bytes(),
+                place,
+                output,
+            ),
             Next::Long => return refused(place, Code::E1),
             Next::End => return finish(slots, counting, text, output),
             Next::Limit => return refused(MOST, Code::Z1),
             Next::Failed => return Status::ReadFault,
         }
-        match take_line(slots, counting, text, feed.bytes(), output) {
+        match take_line(slots, &mut last, counting, text, feed.bytes(), output) {
             Ok(()) => place += 1,
             Err(stop) => return stop.status(place),
         }
@@ -68,6 +78,7 @@ fn refused(place: u64, code: Code) -> Status
 // Takes the last line, and writes the lines of the last tick.
 fn finish_line<K: Sink>(
     slots: &SlotTable,
+    last: &mut LastMoment,
     counting: &mut Counting,
     text: &mut Vec<u8>,
     line: &[u8],
@@ -81,7 +92,7 @@ fn finish_line<K: Sink>(
     ensures write { result ≡ Status.WriteFault → Rose (K.faults output.old) (K.faults output.new) }
     ensures later { K.faults output.old ≤ K.faults output.new }
 {
-    match take_line(slots, counting, text, line, output) {
+    match take_line(slots, last, counting, text, line, output) {
         Ok(()) => finish(slots, counting, text, output),
         Err(stop) => stop.status(place),
     }
