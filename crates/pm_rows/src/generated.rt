@@ -2,6 +2,7 @@
 ghost use Rattle.std.specs.Prelude.{◌<◌};
 
 use crate::tally::compare;
+use pm_base::Code;
 use pm_top::Status;
 use std::alloc::AllocError;
 use std::test::Fail;
@@ -25,9 +26,11 @@ impl Numbers {
     }
 }
 
-const METRICS: [&str; 4] = ["A.Sum", "A.Mean", "A.Each", "A.None"];
+const METRICS: [&str; 5] = ["A.Sum", "A.Mean", "A.Each", "A.Held", "A.None"];
 
-// Two or three cells, and a measurement of each kind but one.
+const REDUCTIONS: [&str; 2] = ["MEAN", "MAX"];
+
+// Two or three cells, and a measurement of each kind.
 fn inventory(text: &mut String, numbers: &mut Numbers) -> Result<(), AllocError> {
     text.push_str("object ManagedElement=1\nobject ManagedElement=1,GNBCUCPFunction=1\n")?;
     text.push_str("object ManagedElement=1,GNBCUCPFunction=1,NRCellCU=0\n")?;
@@ -38,17 +41,32 @@ fn inventory(text: &mut String, numbers: &mut Numbers) -> Result<(), AllocError>
     text.push_str("measure A.Sum NRCellCU CC SUM\nmeasure A.Mean NRCellCU GAUGE MEAN\n")?;
     let every = numbers.below(3) + 1;
     writeln!(text, "measure A.Each NRCellCU DER MAX {every}")?;
+    let reduce = REDUCTIONS[numbers.below(2) as usize];
+    writeln!(text, "measure A.Held NRCellCU SI {reduce}")?;
     text.push_str("end\n")
 }
 
+// Now and then greater than is permitted.
+fn value(numbers: &mut Numbers) -> u32 {
+    match numbers.below(80) {
+        0 => 1_048_575 + numbers.below(3),
+        small => small,
+    }
+}
+
+// Now and then of three words.
 fn event(text: &mut String, numbers: &mut Numbers, moment: u32) -> Result<(), AllocError> {
     let cell = numbers.below(40) / 19;
-    let metric = METRICS[(numbers.below(97) / 32) as usize];
-    let value = numbers.below(50);
-    writeln!(
+    let metric = METRICS[(numbers.below(129) / 32) as usize];
+    write!(
         text,
-        "{moment} ManagedElement=1,GNBCUCPFunction=1,NRCellCU={cell} {metric} {value}"
-    )
+        "{moment} ManagedElement=1,GNBCUCPFunction=1,NRCellCU={cell} {metric}"
+    )?;
+    if numbers.below(120) > 0 {
+        let value = value(numbers);
+        write!(text, " {value}")?;
+    }
+    text.push_str("\n")
 }
 
 fn events(text: &mut String, numbers: &mut Numbers) -> Result<(), AllocError> {
@@ -60,18 +78,47 @@ fn events(text: &mut String, numbers: &mut Numbers) -> Result<(), AllocError> {
     Ok(())
 }
 
+/// How many inputs ended in which way.
+#[derive(Drop)]
+struct Ends {
+    done: u32,
+    malformed: u32,
+    unknown: u32,
+    great: u32,
+}
+
+impl Ends {
+    fn count(&mut self, status: Status) {
+        let count = match status {
+            Status::Done => &mut self.done,
+            Status::BadInput { code: Code::E1, .. } => &mut self.malformed,
+            Status::BadInput { code: Code::E2, .. } => &mut self.unknown,
+            Status::BadInput { code: Code::E3, .. } => &mut self.great,
+            _ => return,
+        };
+        *count = count.saturating_add(1);
+    }
+}
+
 #[test]
 fn the_program_tallies_as_the_plain_tally_does(rt: HostRuntime) -> Result<(), Fail> {
     let mut numbers = Numbers { state: 1 };
-    let mut done = 0u32;
+    let mut ends = Ends {
+        done: 0,
+        malformed: 0,
+        unknown: 0,
+        great: 0,
+    };
     for at in 0..300usize {
         let mut text = String::new(rt.alloc());
         inventory(&mut text, &mut numbers)?;
         events(&mut text, &mut numbers)?;
-        if compare(&rt, rt.alloc(), text.as_bytes(), at)? == Status::Done {
-            done = done.saturating_add(1);
-        }
+        let plain = compare(&rt, rt.alloc(), text.as_bytes(), at)?;
+        ends.count(plain.status);
     }
-    assert!(rt; done > 20 && done < 280, "{done} of 300 had no refusal");
+    assert!(rt; ends.done > 50, "{} had no refusal", ends.done);
+    assert!(rt; ends.malformed > 9, "{} had E1", ends.malformed);
+    assert!(rt; ends.unknown > 9, "{} had E2", ends.unknown);
+    assert!(rt; ends.great > 9, "{} had E3", ends.great);
     Ok(())
 }

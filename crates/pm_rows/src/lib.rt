@@ -5,4 +5,6 @@
 #[cfg(test)]
 mod generated;
 #[cfg(test)]
+mod refusals;
+#[cfg(test)]
 mod tally;

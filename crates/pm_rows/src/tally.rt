@@ -2,7 +2,7 @@
 ghost use Rattle.std.specs.Prelude.{List, [], ◌≤◌};
 
 use pm_base::{Code, Failed, Feed, Line, MemSink, MemSource, Source};
-use pm_top::{Status, plain_tally, pmd};
+use pm_top::{PlainTally, Status, plain_tally, pmd};
 use std::alloc::{AllocError, Global};
 use std::process::Abort;
 use std::test::Fail;
@@ -16,7 +16,7 @@ const ATTEMPTS: &str = "RRC.ConnEstabAtt.mo-Data";
 
 const ROOM: u64 = 65536;
 
-fn spelled(alloc: Global, short: &str) -> Result<String, AllocError> {
+pub fn spelled(alloc: Global, short: &str) -> Result<String, AllocError> {
     let cells = short.replace(alloc, "c7", CELL)?;
     let named = cells.replace(alloc, "d7", DU_CELL)?;
     named.replace(alloc, "Att", ATTEMPTS)
@@ -115,8 +115,13 @@ fn other_words_than_tally_alone_are_refused(rt: HostRuntime) -> Result<(), Fail>
     Ok(())
 }
 
-// A source that gives so many bytes at a time ends as the plain tally of its bytes does.
-pub fn compare(rt: &impl Abort, alloc: Global, input: &[u8], at: usize) -> Result<Status, Fail> {
+// A source that gives so many bytes at a time ends as the plain tally of its bytes does, which is the answer.
+pub fn compare(
+    rt: &impl Abort,
+    alloc: Global,
+    input: &[u8],
+    at: usize,
+) -> Result<PlainTally, Fail> {
     assert!(rt; input.len() < 1_099_511_627_776);
     let plain = plain_tally(alloc, input)?;
     let tally = words(alloc, &["tally"])?;
@@ -130,7 +135,7 @@ pub fn compare(rt: &impl Abort, alloc: Global, input: &[u8], at: usize) -> Resul
         );
         assert_eq!(rt; sink.written(), plain.text.as_bytes(), "row {at} by {most}");
     }
-    Ok(plain.status)
+    Ok(plain)
 }
 
 #[test]
@@ -162,7 +167,7 @@ fn each_input_is_tallied_as_it_is_defined(rt: HostRuntime) -> Result<(), Fail> {
             Some((place, code)) => Status::BadInput { place, code },
         };
         assert_eq!(rt;
-            compare(&rt, alloc, given.as_bytes(), at)?,
+            compare(&rt, alloc, given.as_bytes(), at)?.status,
             want,
             "row {at}"
         );
@@ -178,7 +183,7 @@ fn a_line_of_2049_bytes_has_not_the_form(rt: HostRuntime) -> Result<(), Fail> {
         let metric = "x".repeat(alloc, bytes)?;
         let line = format!(in alloc; "end\n60 {CELL} {metric} 1\n")?;
         let want = Status::BadInput { place: 2, code };
-        assert_eq!(rt; compare(&rt, alloc, line.as_bytes(), bytes)?, want);
+        assert_eq!(rt; compare(&rt, alloc, line.as_bytes(), bytes)?.status, want);
     }
     Ok(())
 }
@@ -207,34 +212,6 @@ fn faults_end_a_tally_behind_the_lines_of_ended_ticks(rt: HostRuntime) -> Result
     );
     assert_eq!(rt; sink.written(), b"".as_slice());
     assert_eq!(rt; sink.faults(), 1);
-    Ok(())
-}
-
-// The lines of an inventory that is refused at one of them, and by which rule.
-const REFUSED: [(&str, u64, Code); 8] = [
-    ("", 1, Code::I2),
-    ("objects x\n", 1, Code::I1),
-    ("object ManagedElement=ME1\n", 2, Code::I2),
-    ("object ManagedElement=ME1\nend\n", 2, Code::M5),
-    ("measure A.b NRCellCU CC SUM\nend\n", 2, Code::N10),
-    ("measure RRC NRCellCU CC SUM\n", 1, Code::M1),
-    ("measure A.b NRCellCU CC MEAN\n", 1, Code::M2),
-    (
-        "measure A.b NRCellCU CC SUM\nmeasure A.b NRCellCU SI MAX\n",
-        2,
-        Code::M3,
-    ),
-];
-
-#[test]
-fn an_inventory_is_refused_at_its_line(rt: HostRuntime) -> Result<(), Fail> {
-    for (input, line, code) in REFUSED {
-        assert_eq!(rt;
-            compare(&rt, rt.alloc(), input.as_bytes(), 0)?,
-            Status::BadInventory { line, code },
-            "at {input:?}"
-        );
-    }
     Ok(())
 }
 
