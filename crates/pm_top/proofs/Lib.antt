@@ -9,4 +9,4 @@ pub mod EndLemmas
 pub mod WordsLemmas
 pub mod OutcomeLemmas
 pub mod PlainLemmas
-pub mod LastMomentLemmas
+pub mod ReaderLemmas

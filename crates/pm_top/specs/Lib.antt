@@ -8,3 +8,4 @@ pub mod Outcome
 pub mod Words
 pub mod StatusText
 pub mod Plain
+pub mod TwoWords

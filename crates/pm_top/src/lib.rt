@@ -3,12 +3,12 @@
 
 mod counting;
 mod event;
-mod last_moment;
 mod lines;
 mod next;
 mod plain;
 mod plain_events;
 mod plain_text;
+mod reader;
 mod slot_count;
 mod status;
 mod status_text;

@@ -8,8 +8,8 @@ ghost use Rattle.pm_top.specs.Taking.{TakesLine, WritesLine, stop_status};
 
 use crate::Status;
 use crate::counting::Counting;
-use crate::last_moment::LastMoment;
 use crate::lines::{Fault, write_tick};
+use crate::reader::Reader;
 use pm_base::{Code, Sink, tick};
 use pm_model::SlotTable;
 
@@ -41,20 +41,22 @@ impl Stop {
 /// first.
 pub fn take_line<K: Sink>(
     slots: &SlotTable,
-    last: &mut LastMoment,
+    reader: &mut Reader<'_>,
     counting: &mut Counting,
     text: &mut Vec<u8>,
     line: &[u8],
     output: &mut K,
 ) -> Result<(), Stop>
-    requires { length counting.old.counts.items ≡ length slots.now }
+    requires many { length counting.old.counts.items ≡ length slots.now }
+    requires reader { reader.old.slots.now ≡ slots.now }
     ensures many { length counting.new.counts.items ≡ length slots.now }
+    ensures reader { reader.new.slots.now ≡ slots.now }
     ensures taken { (events : List Event) → Counts slots.now counting.old events → TakesLine slots.now events line.now result counting.new }
     ensures written { K.IsTold → (events : List Event) (before : List ℕ) → Counts slots.now counting.old events → K.written output.old ≡ before ++ ended_lines slots.now events → WritesLine slots.now events line.now result before (K.written output.new) }
     ensures fault { result ≡ Err Stop.WriteFault → Rose (K.faults output.old) (K.faults output.new) }
     ensures later { K.faults output.old ≤ K.faults output.new }
 {
-    let event = match last.read(slots, line) {
+    let event = match reader.read(line) {
         Ok(event) => event,
         Err(code) => return Err(Stop::Refused(code)),
     };

@@ -12,9 +12,9 @@ ghost use Rattle.pm_top.specs.Finishing.{IsEnd, IsLastEnd, Finishes, TakesLast, 
 
 use crate::Status;
 use crate::counting::Counting;
-use crate::last_moment::LastMoment;
 use crate::lines::{Fault, write_tick};
 use crate::next::{Next, next_line};
+use crate::reader::Reader;
 use crate::taking::take_line;
 use pm_base::{Code, Feed, Sink, Source};
 use pm_model::{InventoryError, ReadInventory, SlotTable, read_inventory};
@@ -43,14 +43,14 @@ fn tally_lines<S: Source, K: Sink>(
     ensures write { result ≡ Status.WriteFault → Rose (K.faults output.old) (K.faults output.new) }
     ensures later { (S.faults input.old ≤ S.faults input.new) × (K.faults output.old ≤ K.faults output.new) }
 {
-    let mut last = LastMoment::new();
+    let mut reader = Reader::new(slots);
     let mut place = first;
     'lines: loop {
         match next_line(feed, input) {
             Next::Line => {}
             Next::Last => return finish_line(
                 slots,
-                &mut last,
+                &mut reader,
                 counting,
                 text,
                 feed.bytes(),
@@ -62,7 +62,7 @@ fn tally_lines<S: Source, K: Sink>(
             Next::Limit => return refused(MOST, Code::Z1),
             Next::Failed => return Status::ReadFault,
         }
-        match take_line(slots, &mut last, counting, text, feed.bytes(), output) {
+        match take_line(slots, &mut reader, counting, text, feed.bytes(), output) {
             Ok(()) => place += 1,
             Err(stop) => return stop.status(place),
         }
@@ -78,21 +78,22 @@ fn refused(place: u64, code: Code) -> Status
 // Takes the last line, and writes the lines of the last tick.
 fn finish_line<K: Sink>(
     slots: &SlotTable,
-    last: &mut LastMoment,
+    reader: &mut Reader<'_>,
     counting: &mut Counting,
     text: &mut Vec<u8>,
     line: &[u8],
     place: u64,
     output: &mut K,
 ) -> Status
-    requires { length counting.old.counts.items ≡ length slots.now }
+    requires many { length counting.old.counts.items ≡ length slots.now }
+    requires reader { reader.old.slots.now ≡ slots.now }
     ensures finished { K.IsTold → (events : List Event) (before : List ℕ) → Counts slots.now counting.old events → K.written output.old ≡ before ++ ended_lines slots.now events → WritesLast slots.now events line.now before (K.written output.new) result }
     ensures taken { (events : List Event) → Counts slots.now counting.old events → TakesLast slots.now events line.now place result }
     ensures known { IsLastEnd result }
     ensures write { result ≡ Status.WriteFault → Rose (K.faults output.old) (K.faults output.new) }
     ensures later { K.faults output.old ≤ K.faults output.new }
 {
-    match take_line(slots, last, counting, text, line, output) {
+    match take_line(slots, reader, counting, text, line, output) {
         Ok(()) => finish(slots, counting, text, output),
         Err(stop) => stop.status(place),
     }

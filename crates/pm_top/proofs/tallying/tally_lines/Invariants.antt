@@ -8,6 +8,7 @@ invariant-lines g l = record {
   reads : g.S.Source.faults l.initial.input ≤ g.S.Source.faults l.input;
   writes : g.K.Sink.faults l.initial.output ≤ g.K.Sink.faults l.output;
   many : length l.counting.counts.items ≡ length l.slots;
+  reader : l.reader.slots.now ≡ l.slots;
   knows_end : g.S.Source.IsTold → KnowsEnd l.feed (g.S.Source.left l.input);
   total : g.S.Source.IsTold → l.feed.given + length (left_to l.feed (g.S.Source.left l.input)) ≡ l.initial.feed.given + length (left_to l.initial.feed (g.S.Source.left l.initial.input));
   place : l.place ≤ l.feed.given + l.first;
