@@ -8,5 +8,6 @@ pub mod HeadLemmas
 pub mod GatherLemmas
 pub mod StepLemmas
 pub mod PieceLemmas
+pub mod LimitLemmas
 pub mod ReadLemmas
 pub mod QueryLemmas

@@ -1,9 +1,10 @@
 -- What a head is gathered from: lines, and parts of long ones.
-use Rattle.std.specs.Prelude.{◌≡◌, ◌≢◌, ◌<◌, ◌≤◌, ◌⊎◌, ℕ, Bool, true, false, List, [], ◌∷◌, ◌++◌, length, take, Option, Some, None}
+use Rattle.std.specs.Prelude.{◌≡◌, ◌≢◌, ◌+◌, ◌-◌, ◌<◌, ◌≤◌, ◌⊎◌, ℕ, Bool, true, false, List, [], ◌∷◌, ◌++◌, length, take, Option, Some, None}
 use Rattle.httparse.specs.Grammar.{RequestHead, print_request, ReadsRequest, HasNoRequest, NeverHasRequest}
 use Rattle.httparse.specs.Spans.{IsRequestWithin, IsRequestAt}
 use Rattle.httparse.specs.declared.spans.HeaderSpan.{HeaderSpan}
 use Rattle.httparse.specs.declared.spans.RequestSpans.{RequestSpans}
+use Rattle.pm_base.specs.Feed.{MOST_READ}
 use Rattle.pm_base.specs.Line.{HasNoLineFeed}
 use Rattle.pm_http.specs.declared.piece.Piece.{Piece}
 use Rattle.pm_http.specs.declared.piece.Piece.TheVariants.{Blank, Line, Part, End}
@@ -69,6 +70,17 @@ pub record IsParsed (bytes : List ℕ) (headers : List HeaderSpan) (spans : Requ
   pub within : IsRequestWithin bytes headers spans
   pub few : spans.headers ≤ 64
   pub short : spans.len ≤ 16384
+
+-- As many bytes as may be read stand before the limit, and none of them ends a line.
+pub record PieceStops (given : ℕ) (left : List ℕ) : Type 0 where
+  pub reached : MOST_READ ≤ given + length left
+  pub plain : HasNoLineFeed (take (MOST_READ - given) left)
+
+-- As many bytes as may be read stand before the limit, and are fewer than a body of this size.
+pub record BodyStops (given : ℕ) (left : List ℕ) (size : ℕ) : Type 0 where
+  pub within : given ≤ MOST_READ
+  pub reached : MOST_READ ≤ given + length left
+  pub fewer : MOST_READ < given + size
 
 -- Of all bytes some are gathered, and no head stands there yet.
 pub record Gathers (all gathered left : List ℕ) : Type 0 where

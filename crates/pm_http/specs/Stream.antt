@@ -1,8 +1,9 @@
 -- The requests of a stream of bytes, from its front (RFC 9112; the codes and the limits are this project's own).
-use Rattle.std.specs.Prelude.{◌≡◌, ◌<◌, ◌≤◌, ◌⊎◌, ℕ, List, [], ◌++◌, length, take}
+use Rattle.std.specs.Prelude.{◌≡◌, ◌+◌, ◌-◌, ◌<◌, ◌≤◌, ◌⊎◌, ℕ, List, [], ◌++◌, length, take}
 use Rattle.httparse.specs.Grammar.{RequestHead, print_request, ReadsRequest, HasNoRequest, NeverHasRequest}
 use Rattle.pm_base.specs.declared.code.Code.{Code}
 use Rattle.pm_base.specs.declared.code.Code.TheVariants.{H1, H2}
+use Rattle.pm_base.specs.Feed.{MOST_READ}
 use Rattle.pm_http.specs.declared.size.BodySize.TheVariants.{Refused, Bytes}
 use Rattle.pm_http.specs.declared.request.Request.{Request}
 use Rattle.pm_http.specs.declared.next.Next.{Next}
@@ -58,6 +59,12 @@ pub record EndsInBody (bytes : List ℕ) : Type 0 where
   pub short : length (print_request head) ≤ 16384
   pub size_is : body_size head ≡ Bytes size
   pub less : length body < size
+
+-- As many bytes as may be read stand before the limit, and give no request: those of them that are looked at hold no whole
+-- head, or they end inside the body of a request.
+pub record StopsAtLimit (given : ℕ) (left : List ℕ) : Type 0 where
+  pub reached : MOST_READ ≤ given + length left
+  pub unanswered : HasNoRequest (looked_at (take (MOST_READ - given) left)) ⊎ EndsInBody (take (MOST_READ - given) left)
 
 -- What the bytes from this offset on begin with, and what is left behind it: a request, the end, a refusal, or a request
 -- that is cut short. The cases exclude each other, but that H1 may stand where H2 or a cut does.

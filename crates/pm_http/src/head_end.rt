@@ -1,9 +1,9 @@
 //! The reading of a head.
 ghost use Rattle.std.specs.Prelude.{◌≡◌, ◌≢◌, ◌<◌, ◌≤◌, ◌+◌, [], ℕ, List, None, Ok, Err, length, vec_len, IfOk, OnOk, IfSome};
 ghost use Rattle.pm_base.specs.Causes.{Rose};
-ghost use Rattle.pm_base.specs.Feed.{left_to, KnowsEnd, MOST_READ};
-ghost use Rattle.pm_http.specs.Stream.{looked_at};
-ghost use Rattle.pm_http.specs.Piece.{Gathers, Grows, EndsHead, StepsHead, IsOpen, IsSafe};
+ghost use Rattle.pm_base.specs.Feed.{left_to, KnowsEnd};
+ghost use Rattle.pm_http.specs.Stream.{looked_at, StopsAtLimit};
+ghost use Rattle.pm_http.specs.Piece.{PieceStops, Gathers, Grows, EndsHead, StepsHead, IsOpen, IsSafe};
 
 use crate::HttpError;
 use crate::piece::{Piece, read_piece};
@@ -49,7 +49,7 @@ pub fn read_head<S: Source>(
     ensures safe { IfOk result (IsSafe head.new.items fields.new) }
     ensures given { S.IsTold → feed.new.given + length (left_to feed.new (S.left source.new)) ≡ feed.old.given + length (left_to feed.old (S.left source.old)) }
     ensures knows_end { S.IsTold → KnowsEnd feed.new (S.left source.new) }
-    ensures limit { S.IsTold → result ≡ Err HttpError.Limit → MOST_READ ≤ feed.old.given + length (left_to feed.old (S.left source.old)) }
+    ensures limit { S.IsTold → result ≡ Err HttpError.Limit → StopsAtLimit feed.old.given (left_to feed.old (S.left source.old)) }
     ensures failed { result ≡ Err HttpError.ReadFault → Rose (S.faults source.old) (S.faults source.new) }
     ensures later { S.faults source.old ≤ S.faults source.new }
 {
@@ -76,7 +76,7 @@ fn read_on<S: Source>(
     ensures safe { IfOk result (λ o. IfSome o (IsSafe head.new.items fields.new)) }
     ensures given { S.IsTold → feed.new.given + length (left_to feed.new (S.left source.new)) ≡ feed.old.given + length (left_to feed.old (S.left source.old)) }
     ensures knows_end { S.IsTold → KnowsEnd feed.new (S.left source.new) }
-    ensures limit { S.IsTold → result ≡ Err HttpError.Limit → MOST_READ ≤ feed.old.given + length (left_to feed.old (S.left source.old)) }
+    ensures limit { S.IsTold → result ≡ Err HttpError.Limit → PieceStops feed.old.given (left_to feed.old (S.left source.old)) }
     ensures failed { result ≡ Err HttpError.ReadFault → Rose (S.faults source.old) (S.faults source.new) }
     ensures later { S.faults source.old ≤ S.faults source.new }
 {

@@ -1,9 +1,9 @@
 //! The pieces in which a head is gathered: its lines. A head ends with a line, so no byte behind it is taken.
 ghost use Rattle.std.specs.Prelude.{◌≡◌, ◌<◌, ◌≤◌, ◌+◌, ℕ, Ok, Err, length, vec_len, take, IfOk};
 ghost use Rattle.pm_base.specs.Causes.{Rose};
-ghost use Rattle.pm_base.specs.Feed.{left_to, KnowsEnd, MOST_READ};
+ghost use Rattle.pm_base.specs.Feed.{left_to, KnowsEnd};
 ghost use Rattle.pm_base.specs.Line.{HasNoLineFeed};
-ghost use Rattle.pm_http.specs.Piece.{Moves, IsPushed, IsLineKind};
+ghost use Rattle.pm_http.specs.Piece.{Moves, PieceStops, IsPushed, IsLineKind};
 
 use crate::HttpError;
 use crate::taking::take_behind;
@@ -38,7 +38,7 @@ pub fn read_piece<S: Source>(
     ensures grows { IfOk result (λ piece. (piece ≡ Piece.End → ⊥) → vec_len head.old < vec_len head.new) }
     ensures given { S.IsTold → feed.new.given + length (left_to feed.new (S.left source.new)) ≡ feed.old.given + length (left_to feed.old (S.left source.old)) }
     ensures knows_end { S.IsTold → KnowsEnd feed.new (S.left source.new) }
-    ensures limit { S.IsTold → result ≡ Err HttpError.Limit → MOST_READ ≤ feed.old.given + length (left_to feed.old (S.left source.old)) }
+    ensures limit { S.IsTold → result ≡ Err HttpError.Limit → PieceStops feed.old.given (left_to feed.old (S.left source.old)) }
     ensures failed { result ≡ Err HttpError.ReadFault → Rose (S.faults source.old) (S.faults source.new) }
     ensures later { S.faults source.old ≤ S.faults source.new }
 {
@@ -96,7 +96,7 @@ fn take_part<S: Source>(
     ensures grows { IfOk result (λ piece. (piece ≡ Piece.End → ⊥) → vec_len head.old < vec_len head.new) }
     ensures given { S.IsTold → feed.new.given + length (left_to feed.new (S.left source.new)) ≡ feed.old.given + length (left_to feed.old (S.left source.old)) }
     ensures knows_end { S.IsTold → KnowsEnd feed.new (S.left source.new) }
-    ensures limit { S.IsTold → result ≡ Err HttpError.Limit → MOST_READ ≤ feed.old.given + length (left_to feed.old (S.left source.old)) }
+    ensures limit { S.IsTold → result ≡ Err HttpError.Limit → PieceStops feed.old.given (left_to feed.old (S.left source.old)) }
     ensures failed { result ≡ Err HttpError.ReadFault → Rose (S.faults source.old) (S.faults source.new) }
     ensures later { S.faults source.old ≤ S.faults source.new }
 {

@@ -4,9 +4,9 @@ ghost use Rattle.std.specs.List.{All};
 ghost use Rattle.httparse.specs.Grammar.{RequestHead};
 ghost use Rattle.httparse.specs.Spans.{IsRequestAt, IsHeaderWithin, header_bytes};
 ghost use Rattle.pm_base.specs.Causes.{Rose};
-ghost use Rattle.pm_base.specs.Feed.{left_to, KnowsEnd, MOST_READ};
+ghost use Rattle.pm_base.specs.Feed.{left_to, KnowsEnd};
 ghost use Rattle.pm_http.specs.Head.{body_size, first_of, values_of, IsWithinLimit};
-ghost use Rattle.pm_http.specs.Stream.{IsNext, IsPlaced, IsSmall, IsOf};
+ghost use Rattle.pm_http.specs.Stream.{StopsAtLimit, IsNext, IsPlaced, IsSmall, IsOf};
 ghost use Rattle.pm_http.specs.Piece.{IsGathered, IsParsed};
 
 use crate::body::{body_room, fill};
@@ -36,7 +36,7 @@ pub fn next_request<S: Source>(
     ensures small { IfOk result IsSmall }
     ensures given { S.IsTold → feed.new.given + length (left_to feed.new (S.left source.new)) ≡ feed.old.given + length (left_to feed.old (S.left source.old)) }
     ensures knows_end { S.IsTold → KnowsEnd feed.new (S.left source.new) }
-    ensures limit { S.IsTold → result ≡ Err HttpError.Limit → MOST_READ ≤ feed.old.given + length (left_to feed.old (S.left source.old)) }
+    ensures limit { S.IsTold → result ≡ Err HttpError.Limit → StopsAtLimit feed.old.given (left_to feed.old (S.left source.old)) }
     ensures failed { result ≡ Err HttpError.ReadFault → Rose (S.faults source.old) (S.faults source.new) }
     ensures later { S.faults source.old ≤ S.faults source.new }
 {
@@ -79,7 +79,7 @@ fn read_rest<S: Source>(
     ensures small { IfOk result IsSmall }
     ensures given { S.IsTold → feed.new.given + length (left_to feed.new (S.left source.new)) ≡ feed.old.given + length (left_to feed.old (S.left source.old)) }
     ensures knows_end { S.IsTold → KnowsEnd feed.new (S.left source.new) }
-    ensures limit { S.IsTold → result ≡ Err HttpError.Limit → MOST_READ ≤ feed.old.given + length (left_to feed.old (S.left source.old)) }
+    ensures limit { S.IsTold → (all : List ℕ) → IsGathered all head.now (left_to feed.old (S.left source.old)) fields.now spans → feed.old.given + length (left_to feed.old (S.left source.old)) ≡ offset + length all → result ≡ Err HttpError.Limit → StopsAtLimit offset all }
     ensures failed { result ≡ Err HttpError.ReadFault → Rose (S.faults source.old) (S.faults source.new) }
     ensures later { S.faults source.old ≤ S.faults source.new }
 {
