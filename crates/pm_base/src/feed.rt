@@ -132,6 +132,10 @@ impl Feed {
         ensures given { S.IsTold → self.new.given + length (left_to self.new (S.left source.new)) ≡ self.old.given + length (left_to self.old (S.left source.old)) }
         ensures knows_end { S.IsTold → KnowsEnd self.new (S.left source.new) }
 
+        // Of any source: all bytes that are taken are at most the limit, and the end stands before it.
+        ensures most { self.new.given ≤ MOST_READ }
+        ensures end { result ≡ Ok 0 → 0 < length buf.old → self.old.given < MOST_READ }
+
         // The limit comes exactly where it is met.
         ensures limit { result ≡ Err FeedError.Limit → IsSpent self.old × (0 < length buf.old) }
         ensures within { OnOk result (IsSpent self.old → 0 < length buf.old → ⊥) }
@@ -173,6 +177,8 @@ impl Feed {
 
     // Moves bytes from the front of the buffer.
     fn take_buffered(&mut self, buf: &mut [u8]) -> usize
+        ensures within { self.old.given + length self.old.buffered ≤ MOST_READ }
+        ensures before_end { self.old.ended ≡ true → self.old.given + length self.old.buffered < MOST_READ }
         ensures count { result ≡ min (length self.old.buffered) (length buf.old) }
         ensures moved { self.old.buffered ≡ take result buf.new ++ self.new.buffered }
         ensures given { self.new.given ≡ self.old.given + result }
