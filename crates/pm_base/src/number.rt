@@ -12,8 +12,8 @@ pub fn read_number(bytes: &[u8], most: usize) -> Option<u64>
     requires { most ≤ 19 }
     ensures { MatchOption result (is_number most bytes.now ≡ false) (λ n. (is_number most bytes.now ≡ true) × (n ≡ number_of bytes.now)) }
 {
-    if 1 <= bytes.len() && bytes.len() <= most && are_digits(bytes) {
-        Some(value_of(bytes))
+    if 1 <= bytes.len() && bytes.len() <= most {
+        read_digits(bytes)
     } else {
         None
     }
@@ -29,20 +29,17 @@ pub fn read_moment(bytes: &[u8]) -> Option<u64>
     }
 }
 
-fn are_digits(bytes: &[u8]) -> bool
-    ensures { result ≡ list_all is_ascii_digit bytes.now }
-{
-    bytes.iter().all(|b| b.is_ascii_digit())
-}
-
-fn value_of(digits: &[u8]) -> u64
-    requires digits { list_all is_ascii_digit digits.now ≡ true }
-    requires short { length digits.now ≤ 19 }
-    ensures { result ≡ number_of digits.now }
+// The number that the bytes stand for; none where one of them is no digit.
+fn read_digits(bytes: &[u8]) -> Option<u64>
+    requires { length bytes.now ≤ 19 }
+    ensures { MatchOption result (list_all is_ascii_digit bytes.now ≡ false) (λ n. (list_all is_ascii_digit bytes.now ≡ true) × (n ≡ number_of bytes.now)) }
 {
     let mut value = 0u64;
-    for digit in digits {
-        value = 10 * value + u64::from(*digit - b'0');
+    for byte in bytes {
+        if !byte.is_ascii_digit() {
+            return None;
+        }
+        value = 10 * value + u64::from(*byte - b'0');
     }
-    value
+    Some(value)
 }
