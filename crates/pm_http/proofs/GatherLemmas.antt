@@ -1,9 +1,9 @@
 -- A head ends with a line, so the pieces in which it is gathered don't go past its end.
 use Rattle.std.proofs.Common.{◌≡◌, ◌≢◌, ℕ, ◌<◌, ◌≤◌, ◌⊎◌, inl, inr, List, [], ◌∷◌, ◌++◌, length, refl, sym, ap, ◌∙◌, subst, arith, append_assoc, append-nil, length-append}
-use Rattle.std.specs.List.{flat_map}
+use Rattle.std.specs.List.{All, flat_map}
 use Rattle.std.proofs.lemmas.Bool.{cases_lt}
 use Rattle.std.proofs.lemmas.List.Elements.{All-head, All-tail}
-use Rattle.httparse.specs.Grammar.{LineEnd, crlf, lf, print_end, print_blank, print_version, Field, print_field, RequestHead, print_request, ReadsRequest, HasNoRequest}
+use Rattle.httparse.specs.Grammar.{LineEnd, crlf, lf, print_end, print_blank, print_version, Field, print_field, print_section, RequestHead, print_request, ReadsRequest, HasNoRequest}
 use Rattle.pm_base.specs.Line.{HasNoLineFeed}
 
 -- Of two ways to part a list, the longer front begins with the shorter one.
@@ -18,9 +18,13 @@ parts (x ∷ a) b (y ∷ c) d e le =
     let whole : y ∷ c ≡ (x ∷ a) ++ more.0 = cc (same, more.1) in
     (more.0, whole, more.2)
 
+-- A byte that stands nowhere stands not here.
+lone_byte : (byte : ℕ) (front rest : List ℕ) → All (λ b. b ≢ byte) (front ++ byte ∷ rest) → ⊥
+lone_byte byte [] rest plain = All-head (λ b. b ≢ byte) byte rest plain refl
+lone_byte byte (x ∷ front) rest plain = lone_byte byte front rest (All-tail (λ b. b ≢ byte) x (front ++ byte ∷ rest) plain)
+
 lone : (front rest : List ℕ) → HasNoLineFeed (front ++ 10 ∷ rest) → ⊥
-lone [] rest plain = All-head (λ b. b ≢ 10) 10 rest plain refl
-lone (x ∷ front) rest plain = lone front rest (All-tail (λ b. b ≢ 10) x (front ++ 10 ∷ rest) plain)
+lone front rest plain = lone_byte 10 front rest plain
 
 -- A line has one line feed, at its end.
 only_end : (line front rest : List ℕ) → HasNoLineFeed line → line ++ 10 ∷ [] ≡ front ++ 10 ∷ rest → (front ≡ line) × (rest ≡ [])
@@ -166,3 +170,20 @@ no_head-line old line none plain some other h rest reads =
           omega (arith, sizes, some_end.0)
           )
     ]
+
+behind : (front a b c d : List ℕ) → front ++ a ++ b ++ c ++ d ≡ front ++ (a ++ b ++ c ++ d)
+behind front a b c d = simp append_assoc refl
+
+-- A head has a space behind its method, so bytes without one hold none.
+spaced : (h : RequestHead) → (rest : List ℕ) × (print_request h ≡ (print_blank h.blank ++ h.method) ++ 32 ∷ rest)
+unfolding print_request
+spaced h =
+    let rest = h.target ++ 32 ∷ print_version h.minor ++ print_end h.line_end ++ print_section h.fields h.last in
+    (rest, behind (print_blank h.blank ++ h.method) (32 ∷ h.target) (32 ∷ print_version h.minor) (print_end h.line_end) (print_section h.fields h.last))
+
+pub no_head-spaceless : (bytes : List ℕ) → All (λ b. b ≢ 32) bytes → HasNoRequest bytes
+no_head-spaceless bytes plain h rest reads =
+    let s = spaced h in
+    let same : bytes ≡ (print_blank h.blank ++ h.method) ++ 32 ∷ (s.0 ++ rest) =
+    reads.1 ∙ ap (λ (t : List ℕ). t ++ rest) s.1 ∙ append_assoc (print_blank h.blank ++ h.method) (32 ∷ s.0) rest in
+    lone_byte 32 (print_blank h.blank ++ h.method) (s.0 ++ rest) (subst (λ (t : List ℕ). All (λ b. b ≢ 32) t) same plain)

@@ -1,10 +1,10 @@
 -- A head has few fields, and stands whatever bytes follow it.
-use Rattle.std.proofs.Common.{◌≡◌, ℕ, ◌-◌, ◌*◌, ◌<◌, ◌≤◌, List, [], ◌∷◌, ◌++◌, length, take, drop, map, refl, sym, ap, ◌∙◌, subst, arith, append_assoc, append-nil, length-append, length-drop, take-append-drop}
+use Rattle.std.proofs.Common.{◌≡◌, ℕ, ◌-◌, ◌*◌, ◌<◌, ◌≤◌, List, [], ◌∷◌, ◌++◌, length, take, drop, map, refl, ap, ◌∙◌, subst, arith, append_assoc, length-append, length-drop, take-append-drop}
 use Rattle.std.specs.List.{All, flat_map}
 use Rattle.std.proofs.lemmas.List.{take-append-le, drop-append-le}
 use Rattle.std.proofs.lemmas.List.Elements.{All-head, All-tail}
-use Rattle.httparse.specs.Grammar.{LineEnd, crlf, lf, print_end, Field, IsField, print_field, RequestHead, print_request, ReadsRequest, HasNoRequest, NeverHasRequest}
-use Rattle.httparse.specs.Spans.{IsWithin, IsHeaderWithin, IsRequestWithin, IsRequestAt, RequestOverflows, span_bytes, header_bytes}
+use Rattle.httparse.specs.Grammar.{LineEnd, crlf, lf, print_end, Field, IsField, print_field, RequestHead, print_request, ReadsRequest, NeverHasRequest}
+use Rattle.httparse.specs.Spans.{IsWithin, IsHeaderWithin, IsRequestWithin, IsRequestAt, RequestExceeds, span_bytes, header_bytes}
 use Rattle.httparse.specs.declared.spans.Span.{Span}
 use Rattle.httparse.specs.declared.spans.HeaderSpan.{HeaderSpan}
 use Rattle.httparse.specs.declared.spans.RequestSpans.{RequestSpans}
@@ -35,12 +35,11 @@ request_bound buf h rest reads =
     let whole = simp length-append at (ap length reads.1) in
     omega (arith, fields, whole)
 
--- so the room of 8,192 is never wanted by 16,384 bytes
-pub no_overflow : (buf : List ℕ) → length buf ≤ 16384 → RequestOverflows 8192 buf → HasNoRequest buf
-no_overflow buf few over h rest reads =
-    let more : 8192 < length h.fields = over [] h rest (subst (λ (b : List ℕ). ReadsRequest b h rest) (sym (append-nil buf)) reads) in
-    let bound = request_bound buf h rest reads in
-    omega (arith, more, bound, few)
+-- so 16,384 bytes don't exceed a room of 8,192
+pub no_excess : (buf : List ℕ) → length buf ≤ 16384 → RequestExceeds 8192 buf → ⊥
+no_excess buf few over =
+    let bound = request_bound (over.0 ++ print_end lf) over.3 [] over.4 in
+    omega (arith, over.5, bound, few, ap length over.2, length-append over.0 over.1, length-append over.0 (print_end lf))
 
 span_grows : (buf more : List ℕ) (s : Span) → IsWithin (length buf) s → span_bytes (buf ++ more) s ≡ span_bytes buf s
 span_grows buf more s within =

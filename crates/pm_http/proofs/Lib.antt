@@ -8,6 +8,7 @@ pub mod HeadLemmas
 pub mod GatherLemmas
 pub mod StepLemmas
 pub mod PieceLemmas
+pub mod AnswerLemmas
 pub mod LimitLemmas
 pub mod ReadLemmas
 pub mod QueryLemmas

@@ -1,52 +1,37 @@
 -- What stands before the limit.
-use Rattle.std.proofs.Common.{◌≡◌, ℕ, ◌+◌, ◌-◌, ◌<◌, ◌≤◌, inl, inr, List, ◌++◌, length, take, drop, sym, ap, ◌∙◌, subst, arith, append-nil, length-append, take-append-drop}
-use Rattle.std.proofs.lemmas.Bool.{cases_lt}
-use Rattle.std.proofs.lemmas.List.{take-append-le, take_all, drop_all, length-take}
+use Rattle.std.proofs.Common.{◌≡◌, ℕ, ◌+◌, ◌-◌, ◌<◌, ◌≤◌, inl, inr, List, [], ◌++◌, length, take, drop, sym, ap, ◌∙◌, subst, arith, append_assoc, append-nil, length-append}
+use Rattle.std.proofs.lemmas.List.{take_all, drop_all, length-take}
 use Rattle.std.proofs.Math.Seq.{take-append-add}
-use Rattle.httparse.specs.Grammar.{ReadsRequest, HasNoRequest}
+use Rattle.httparse.specs.Grammar.{NeverHasRequest, EndsInTarget}
 use Rattle.httparse.specs.declared.spans.HeaderSpan.{HeaderSpan}
 use Rattle.httparse.specs.declared.spans.RequestSpans.{RequestSpans}
-use Rattle.httparse.proofs.GrammarLemmas.{ReadsRequest-append}
 use Rattle.pm_base.specs.Feed.{MOST_READ}
-use Rattle.pm_base.specs.Line.{HasNoLineFeed}
 use Rattle.pm_http.specs.declared.size.BodySize.TheVariants.{Bytes}
 use Rattle.pm_http.specs.Head.{body_size}
-use Rattle.pm_http.specs.Stream.{StopsAtLimit}
-use Rattle.pm_http.specs.Piece.{IsGathered, PieceStops, BodyStops, Gathers}
-use Rattle.pm_http.proofs.GatherLemmas.{no_head-part}
+use Rattle.pm_http.specs.Stream.{looked_at, readable, StopsAtLimit, EndsInHead, EndsInRequest}
+use Rattle.pm_http.specs.Piece.{IsGathered, BodyStops, IsAnswered}
+use Rattle.pm_http.proofs.AnswerLemmas.{never_inside}
 
--- A front of bytes without a head has none.
-no_head-front : (n : ℕ) (bytes : List ℕ) → HasNoRequest bytes → HasNoRequest (take n bytes)
-no_head-front n bytes none h rest reads =
-    none h (rest ++ drop n bytes)
-    (subst (λ (t : List ℕ). ReadsRequest t h (rest ++ drop n bytes)) (take-append-drop n bytes) (ReadsRequest-append (take n bytes) h rest (drop n bytes) reads))
-
--- Behind a front, the first bytes are the front and the first of the others.
+-- Behind a front, the readable bytes are the front and the readable ones of the others.
 behind_front : (most was now : ℕ) (all front left : List ℕ) → all ≡ front ++ left → now + length left ≡ was + length all → now ≤ most
     → take (most - was) all ≡ front ++ take (most - now) left
 behind_front most was now all front left split given within =
     let sizes : length front + (most - now) ≡ most - was = omega (arith, given, within, ap length split, length-append front left) in
     ap (take (most - was)) split ∙ ap (λ (k : ℕ). take k (front ++ left)) (sym sizes) ∙ take-append-add front left (most - now)
 
-no_head-stopped : (most was now : ℕ) (all gathered left : List ℕ) → all ≡ gathered ++ left → now + length left ≡ was + length all
-    → HasNoRequest gathered → HasNoLineFeed (take (most - now) left) → HasNoRequest (take (most - was) all)
-no_head-stopped most was now all gathered left split given none plain =
-    elim (cases_lt most now) [
-      | inl beyond ↦ (
-          let le : most - was ≤ length gathered = omega (arith, given, beyond, ap length split, length-append gathered left) in
-          subst HasNoRequest (sym (ap (take (most - was)) split ∙ take-append-le (most - was) gathered left le)) (no_head-front (most - was) gathered none)
-          )
-      | inr within ↦ (
-          subst HasNoRequest (sym (behind_front most was now all gathered left split given within)) (no_head-part gathered (take (most - now) left) none plain)
-          )
-    ]
+-- All readable bytes were gathered, and the limit stands inside a head.
+stops_behind : (most was now : ℕ) (all gathered left : List ℕ) → all ≡ gathered ++ left → now + length left ≡ was + length all → now ≡ most
+    → take (most - was) all ≡ gathered
+stops_behind most was now all gathered left split given spent =
+    let within : now ≤ most = omega (arith, spent) in
+    let none : most - now ≡ 0 = omega (arith, spent) in
+    behind_front most was now all gathered left split given within ∙ ap (λ (k : ℕ). gathered ++ take k left) none ∙ append-nil gathered
 
--- The limit stands inside a head.
-pub stops-in_head : (all gathered left : List ℕ) (was now : ℕ) → Gathers all gathered left → now + length left ≡ was + length all
-    → PieceStops now left → StopsAtLimit was all
-stops-in_head all gathered left was now gathers given stops = record {
-  reached = subst (λ (k : ℕ). MOST_READ ≤ k) given stops.reached;
-  unanswered = inl (no_head-front 16384 (take (MOST_READ - was) all) (no_head-stopped MOST_READ was now all gathered left gathers.split given gathers.none stops.plain));
+pub stops-in_head : (all gathered left : List ℕ) (was now : ℕ) → all ≡ gathered ++ left → now + length left ≡ was + length all → now ≡ MOST_READ
+    → EndsInHead gathered → StopsAtLimit was all
+stops-in_head all gathered left was now split given spent in_head = record {
+  reached = omega (arith, given, spent);
+  inside = inl (subst EndsInHead (sym (stops_behind MOST_READ was now all gathered left split given spent)) in_head);
 }
 
 fewer_than : (most now size : ℕ) (left : List ℕ) → now ≤ most → most < now + size → length (take (most - now) left) < size
@@ -58,7 +43,7 @@ pub stops-in_body : (all gathered left : List ℕ) (headers : List HeaderSpan) (
     → BodyStops now left size → StopsAtLimit was all
 stops-in_body all gathered left headers spans was now size g size_is given stops = record {
   reached = subst (λ (k : ℕ). MOST_READ ≤ k) given stops.reached;
-  unanswered = inr record {
+  inside = inr record {
     head = g.head;
     body = take (MOST_READ - now) left;
     size = size;
@@ -68,6 +53,33 @@ stops-in_body all gathered left headers spans was now size g size_is given stops
     less = fewer_than MOST_READ now size left stops.within stops.fewer;
   };
 }
+
+-- Where the end was found before the limit, the limit isn't met.
+pub ended_before : (was now : ℕ) (all left : List ℕ) → now + length left ≡ was + length all → left ≡ [] → now < MOST_READ → StopsAtLimit was all → ⊥
+ended_before was now all left given none before stops = omega (arith, given, ap length none, before, stops.reached)
+
+-- What stops at the limit has the bytes at its front that were taken before it.
+pub stops_with : (was now : ℕ) (all front left : List ℕ) → all ≡ front ++ left → now + length left ≡ was + length all → now ≤ MOST_READ
+    → StopsAtLimit was all → EndsInRequest (front ++ readable now left)
+stops_with was now all front left split given within stops =
+    subst EndsInRequest (behind_front MOST_READ was now all front left split given within) stops.inside
+
+-- The front goes on by the first of the bytes that are left.
+pub front_on : (all front left more rest : List ℕ) → all ≡ front ++ left → left ≡ more ++ rest → all ≡ (front ++ more) ++ rest
+front_on all front left more rest split first = split ∙ ap (λ (t : List ℕ). front ++ t) first ∙ sym (append_assoc front more rest)
+
+-- Bytes that answer by themselves, and were taken before the limit.
+pub answered_before : (was now : ℕ) (all front left : List ℕ) → all ≡ front ++ left → now + length left ≡ was + length all → now ≤ MOST_READ
+    → IsAnswered front → StopsAtLimit was all → ⊥
+answered_before was now all front left split given within answered stops =
+    answered (readable now left) (stops_with was now all front left split given within stops)
+
+-- Bytes that are the front of no head, and were taken before the limit.
+pub never_before : (was now : ℕ) (all front left : List ℕ) → all ≡ front ++ left → now + length left ≡ was + length all → now ≤ MOST_READ
+    → NeverHasRequest (looked_at front) → StopsAtLimit was all → EndsInTarget (readable was all)
+never_before was now all front left split given within never stops =
+    subst EndsInTarget (sym (behind_front MOST_READ was now all front left split given within))
+    (never_inside front (readable now left) never (stops_with was now all front left split given within stops))
 
 -- A list that is written back whole is what it was.
 pub written_back : {X : Type 0} (n : ℕ) (new old : List X) → n ≡ length old → length new ≡ length old → take n (new ++ drop (length new) old) ≡ new

@@ -4,12 +4,12 @@ use Rattle.std.specs.List.{slice_range}
 use Rattle.std.proofs.lemmas.Bool.Decides.{nat_tests}
 use Rattle.std.proofs.lemmas.List.{take_all, length-take}
 use Rattle.std.proofs.Math.Seq.{take-add, take-append-add, take-append_seam}
-use Rattle.pm_base.specs.Feed.{IsFirstLine}
+use Rattle.pm_base.specs.Feed.{IsFirstLine, MOST_READ}
 use Rattle.pm_base.specs.Line.{HasNoLineFeed}
 use Rattle.pm_base.proofs.LineLemmas.{none_at_all_take}
 use Rattle.pm_http.specs.declared.piece.Piece.{Piece}
-use Rattle.pm_http.specs.declared.piece.Piece.TheVariants.{Blank, Line, Part, End}
-use Rattle.pm_http.specs.Piece.{IsPiece, IsLineKind, IsPushed, Moves}
+use Rattle.pm_http.specs.declared.piece.Piece.TheVariants.{Blank, Line, Part, End, Limit}
+use Rattle.pm_http.specs.Piece.{IsPiece, IsLineKind, IsPushed, BeginsLine, Moves}
 
 line_piece : (line : List ℕ) (piece : Piece) → HasNoLineFeed line → IsLineKind line piece → IsPiece piece (line ++ 10 ∷ [])
 line_piece line Blank plain kind = elim kind [
@@ -19,12 +19,14 @@ line_piece line Blank plain kind = elim kind [
 line_piece line Line plain kind = (line, refl, plain, kind.0, kind.1)
 line_piece line Part plain kind = absurd kind
 line_piece line End plain kind = absurd kind
+line_piece line Limit plain kind = absurd kind
 
 no_end : (line : List ℕ) (piece : Piece) → IsLineKind line piece → piece ≡ End → ⊥
 no_end line Blank kind e = cc
 no_end line Line kind e = cc
 no_end line Part kind e = kind
 no_end line End kind e = kind
+no_end line Limit kind e = kind
 
 -- A line with its line feed: as many bytes were given, and one.
 moved-ended : (old before line after new : List ℕ) (piece : Piece) (was now : ℕ) → IsFirstLine before line after
@@ -79,24 +81,46 @@ still_front old new rest at k size is =
     let same : new ≡ old ++ rest = is ∙ ap (λ (t : List ℕ). t ++ rest) (take_all (at + k) old wide) in
     ap (take at) same ∙ ap (λ (n : ℕ). take n (old ++ rest)) size ∙ take-append_seam old rest
 
--- The front of bytes without a line feed has none.
-plain_front : (front rest : List ℕ) → length front ≤ 2049 → HasNoLineFeed (take 2049 (front ++ rest)) → HasNoLineFeed front
-plain_front front rest few plain =
-    let sizes : length front + (2049 - length front) ≡ 2049 = omega (arith, few) in
-    let whole : take 2049 (front ++ rest) ≡ front ++ take (2049 - length front) rest =
-    ap (λ (k : ℕ). take k (front ++ rest)) (sym sizes) ∙ take-append-add front rest (2049 - length front) in
-    subst HasNoLineFeed (take-append_seam front (take (2049 - length front) rest))
-    (none_at_all_take (length front) (front ++ take (2049 - length front) rest) (subst HasNoLineFeed whole plain))
+-- Where nothing was moved behind the gathered bytes, they stay.
+pub moved-nothing : (old left new rest : List ℕ) (at k : ℕ) → at ≡ length old → new ≡ take at (take (at + k) old ++ rest) → Moves old left new left Limit
+moved-nothing old left new rest at k size is = record {
+  bytes = [];
+  is = refl;
+  grown = is ∙ still_front old (take (at + k) old ++ rest) rest at k size refl ∙ sym (append-nil old);
+  split = refl;
+  ended = λ e. cc (e);
+}
 
--- The first bytes of a long line.
-pub moved-part : (old before buffer after new : List ℕ) (at n : ℕ) → take at buffer ≡ old → n ≤ 2048
-    → before ≡ slice_range buffer at (at + n) ++ after → new ≡ take (at + n) buffer → HasNoLineFeed (take 2049 before)
-    → Moves old before new after Part
-moved-part old before buffer after new at n front few split is plain =
+-- The front of bytes without a line feed has none.
+plain_front : (n : ℕ) (front rest : List ℕ) → length front ≤ n → HasNoLineFeed (take n (front ++ rest)) → HasNoLineFeed front
+plain_front n front rest few plain =
+    let sizes : length front + (n - length front) ≡ n = omega (arith, few) in
+    let whole : take n (front ++ rest) ≡ front ++ take (n - length front) rest =
+    ap (λ (k : ℕ). take k (front ++ rest)) (sym sizes) ∙ take-append-add front rest (n - length front) in
+    subst HasNoLineFeed (take-append_seam front (take (n - length front) rest))
+    (none_at_all_take (length front) (front ++ take (n - length front) rest) (subst HasNoLineFeed whole plain))
+
+-- The first bytes of a line that is long, or that the limit cuts.
+first_bytes : (was now : ℕ) (bytes after : List ℕ) → length bytes ≤ 2048 → now + length after ≡ was + length (bytes ++ after) → now ≤ MOST_READ
+    → BeginsLine was (bytes ++ after) → HasNoLineFeed bytes
+first_bytes was now bytes after few given within begins =
+    let wide : length bytes ≤ 2049 = omega (arith, few) in
+    let readable : length bytes ≤ MOST_READ - was = omega (arith, given, within, length-append bytes after) in
+    elim begins [
+      | inl long ↦ plain_front 2049 bytes after wide long
+      | inr cut ↦ plain_front (MOST_READ - was) bytes after readable cut
+    ]
+
+pub moved-part : (was now : ℕ) (old before buffer after new : List ℕ) (at n : ℕ) → take at buffer ≡ old → n ≤ 2048
+    → before ≡ slice_range buffer at (at + n) ++ after → new ≡ take (at + n) buffer → now + length after ≡ was + length before → now ≤ MOST_READ
+    → BeginsLine was before → Moves old before new after Part
+moved-part was now old before buffer after new at n front few split is given within begins =
     let count : n ≡ at + n - at = omega arith in
-    let size : length (slice_range buffer at (at + n)) ≤ 2049 = omega (arith, few, length-take (at + n - at) (drop at buffer)) in record {
+    let size : length (slice_range buffer at (at + n)) ≤ 2048 = omega (arith, few, length-take (at + n - at) (drop at buffer)) in record {
       bytes = slice_range buffer at (at + n);
-      is = plain_front (slice_range buffer at (at + n)) after size (subst (λ (t : List ℕ). HasNoLineFeed (take 2049 t)) split plain);
+      is =
+          first_bytes was now (slice_range buffer at (at + n)) after size (subst (λ (t : List ℕ). now + length after ≡ was + length t) split given)
+          within (subst (BeginsLine was) split begins);
       grown =
           is ∙ take-add at n buffer
           ∙ ap (λ (t : List ℕ). t ++ take n (drop at buffer)) front

@@ -1,7 +1,8 @@
 -- What one piece more tells of the head.
-use Rattle.std.proofs.Common.{◌≡◌, ℕ, ◌+◌, ◌-◌, ◌<◌, ◌≤◌, inl, inr, List, [], ◌∷◌, ◌++◌, length, take, drop, refl, sym, ap, ◌∙◌, subst, arith, append_assoc, append-nil, length-append, take_all}
+use Rattle.std.proofs.Common.{◌≡◌, ◌≢◌, ℕ, ◌+◌, ◌-◌, ◌<◌, ◌≤◌, inl, inr, Bool, true, false, List, [], ◌∷◌, ◌++◌, length, take, drop, refl, sym, ap, ◌∙◌, subst, arith, append_assoc, append-nil, length-append, take-append-drop, take_all}
 use Rattle.std.proofs.lemmas.Bool.{cases_lt}
 use Rattle.std.proofs.lemmas.List.{take-append-le, length-take}
+use Rattle.std.proofs.lemmas.List.Elements.{All-append}
 use Rattle.std.proofs.Math.Seq.{take-append-add}
 use Rattle.httparse.specs.Grammar.{RequestHead, print_request, ReadsRequest, HasNoRequest, NeverHasRequest}
 use Rattle.httparse.specs.declared.spans.HeaderSpan.{HeaderSpan}
@@ -9,11 +10,11 @@ use Rattle.httparse.specs.declared.spans.RequestSpans.{RequestSpans}
 use Rattle.httparse.proofs.GrammarLemmas.{ReadsRequest-append}
 use Rattle.pm_base.specs.Line.{HasNoLineFeed}
 use Rattle.pm_http.specs.declared.piece.Piece.{Piece}
-use Rattle.pm_http.specs.declared.piece.Piece.TheVariants.{Blank, Line, Part, End}
+use Rattle.pm_http.specs.declared.piece.Piece.TheVariants.{Blank, Line, Part, End, Limit}
 use Rattle.pm_http.specs.declared.sight.Sight.TheVariants as sight
 use Rattle.pm_http.specs.declared.head_end.HeadEnd.TheVariants as ends
-use Rattle.pm_http.specs.Stream.{looked_at}
-use Rattle.pm_http.specs.Piece.{IsSight, IsParsed, IsOpen, Moves, Gathers, Grows, EndsHead}
+use Rattle.pm_http.specs.Stream.{looked_at, IsUnfinished, EndsInHead}
+use Rattle.pm_http.specs.Piece.{IsPiece, HasNoSpace, IsBegun, IsSight, IsParsed, IsLast, MayGrow, Moves, Gathers, Grows, EndsHead}
 use Rattle.pm_http.proofs.HeadLemmas.{whole_from_front, never_grows}
 use Rattle.pm_http.proofs.GatherLemmas.{no_head-nothing, no_head-part, no_head-line, head_ends-line}
 
@@ -64,6 +65,20 @@ moved all old left gathered left2 piece gathers few moves = record {
     nothing [] b e = e
     nothing (x ∷ a) b e = cc
 
+-- Behind an empty line no byte is a space where none was.
+pub still_spaceless : (old bytes gathered : List ℕ) → HasNoSpace old → IsPiece Blank bytes → gathered ≡ old ++ bytes → HasNoSpace gathered
+still_spaceless old bytes gathered plain is grown = elim is [
+  | inl bare ↦ subst HasNoSpace (sym (grown ∙ ap (λ (t : List ℕ). old ++ t) bare)) (All-append (λ b. b ≢ 32) old (10 ∷ []) plain (search arith))
+  | inr return ↦ subst HasNoSpace (sym (grown ∙ ap (λ (t : List ℕ). old ++ t) return)) (All-append (λ b. b ≢ 32) old (13 ∷ 10 ∷ []) plain (search arith))
+]
+
+-- Whether the head is begun behind a piece that was moved.
+pub begun_on : (was now : Bool) (old left gathered left2 : List ℕ) (piece : Piece) → (now ≡ false → (was ≡ false) × (piece ≡ Blank))
+    → IsBegun was old → Moves old left gathered left2 piece → IsBegun now gathered
+begun_on was now old left gathered left2 piece still begun moves = λ is.
+    let same = still is in
+    still_spaceless old moves.bytes gathered (begun same.0) (subst (λ (p : Piece). IsPiece p moves.bytes) same.1 moves.is) moves.grown
+
 -- A line that isn't empty, and a part of a line, complete no head.
 pub no_head-Line : (all gathered left : List ℕ) → Grows all gathered left Line → Gathers all gathered left
 no_head-Line all gathered left g = record {
@@ -77,18 +92,6 @@ no_head-Part all gathered left g = record {
   none = subst HasNoRequest (sym g.grown) (no_head-part g.old g.bytes g.none g.is);
 }
 
-pub no_head-open : (all gathered left : List ℕ) (piece : Piece) → IsOpen piece → Grows all gathered left piece → Gathers all gathered left
-no_head-open all gathered left Blank open_piece g = absurd open_piece
-no_head-open all gathered left Line open_piece g = no_head-Line all gathered left g
-no_head-open all gathered left Part open_piece g = no_head-Part all gathered left g
-no_head-open all gathered left End open_piece g = absurd open_piece
-
-pub going : (piece : Piece) → IsOpen piece → piece ≡ End → ⊥
-going Blank open_piece e = open_piece
-going Line open_piece e = cc (e)
-going Part open_piece e = cc (e)
-going End open_piece e = open_piece
-
 -- A head that a piece completes is all that is gathered.
 whole_line : (gathered old bytes line : List ℕ) → HasNoRequest old → gathered ≡ old ++ bytes → bytes ≡ line ++ 10 ∷ [] → HasNoLineFeed line
     → (h : RequestHead) (rest : List ℕ) → ReadsRequest gathered h rest → gathered ≡ print_request h
@@ -97,7 +100,7 @@ whole_line gathered old bytes line none grown is plain h rest reads =
     let e = head_ends-line old line h rest none plain (subst (λ (t : List ℕ). ReadsRequest t h rest) same reads) in
     same ∙ sym (append_assoc old line (10 ∷ [])) ∙ sym e.1
 
-pub all_gathered : (all gathered left : List ℕ) (piece : Piece) → (piece ≡ End → ⊥) → Grows all gathered left piece
+pub all_gathered : (all gathered left : List ℕ) (piece : Piece) → (IsLast piece → ⊥) → Grows all gathered left piece
     → (h : RequestHead) (rest : List ℕ) → ReadsRequest gathered h rest → gathered ≡ print_request h
 all_gathered all gathered left Blank on g h rest reads =
     elim g.is [
@@ -113,7 +116,8 @@ all_gathered all gathered left Blank on g h rest reads =
 all_gathered all gathered left Line on g h rest reads =
     whole_line gathered g.old g.bytes g.is.0 g.none g.grown g.is.1 g.is.2 h rest reads
 all_gathered all gathered left Part on g h rest reads = absurd ((no_head-Part all gathered left g).none h rest reads)
-all_gathered all gathered left End on g h rest reads = absurd (on refl)
+all_gathered all gathered left End on g h rest reads = absurd (on tt)
+all_gathered all gathered left Limit on g h rest reads = absurd (on tt)
 
 short_front : (bytes : List ℕ) → length (take 16384 bytes) ≤ 16384
 short_front bytes = omega (arith, length-take 16384 bytes)
@@ -128,7 +132,7 @@ parsed bytes fields spans is =
       short = omega (arith, is.0.section.len_fits, short_front bytes);
     }
 
-pub ends-Whole : (all gathered left : List ℕ) (fields : List HeaderSpan) (spans : RequestSpans) (piece : Piece) → (piece ≡ End → ⊥)
+pub ends-Whole : (all gathered left : List ℕ) (fields : List HeaderSpan) (spans : RequestSpans) (piece : Piece) → (IsLast piece → ⊥)
     → Grows all gathered left piece → IsSight (looked_at gathered) fields (sight.Whole spans) → EndsHead all gathered left fields (ends.Whole spans)
 ends-Whole all gathered left fields spans piece on g is =
     let grown = whole_from_front 16384 gathered fields spans (is.0, is.2) in
@@ -156,7 +160,7 @@ pub ends-Long : (all gathered left : List ℕ) (fields : List HeaderSpan) (piece
     → IsSight (looked_at gathered) fields sight.More → EndsHead all gathered left fields ends.Long
 ends-Long all gathered left fields piece g many is = (
   omega (arith, many, ap length g.split, length-append gathered left),
-  subst HasNoRequest (sym (ap (take 16384) g.split ∙ take-append-le 16384 gathered left many)) is,
+  subst IsUnfinished (sym (ap (take 16384) g.split ∙ take-append-le 16384 gathered left many)) is,
 )
 
 pub goes_on : (all gathered left : List ℕ) (fields : List HeaderSpan) (piece : Piece) → Grows all gathered left piece → length gathered < 16384
@@ -164,22 +168,51 @@ pub goes_on : (all gathered left : List ℕ) (fields : List HeaderSpan) (piece :
 goes_on all gathered left fields piece g few is =
     let le : length gathered ≤ 16384 = omega (arith, few) in record {
       split = g.split;
-      none = subst HasNoRequest (take_all 16384 gathered le) is;
+      none = subst HasNoRequest (take_all 16384 gathered le) is.none;
     }
 
 -- At the end of the input all bytes are gathered, and hold no head.
 at_the_end : (all gathered left : List ℕ) → Grows all gathered left End → all ≡ gathered
 at_the_end all gathered left g = g.split ∙ ap (λ (t : List ℕ). gathered ++ t) (g.ended refl) ∙ append-nil gathered
 
+-- Nothing was moved, and the gathered bytes may become a head.
+still_in_head : (gathered old bytes : List ℕ) → gathered ≡ old ++ bytes → bytes ≡ [] → HasNoRequest old → length old < 16384 → MayGrow gathered true
+    → EndsInHead gathered
+still_in_head gathered old bytes grown is none few may =
+    let same : gathered ≡ old = grown ∙ ap (λ (t : List ℕ). old ++ t) is ∙ append-nil old in
+    may (subst HasNoRequest (sym same) none) (omega (arith, ap length same, few))
+
 pub ends-Short : (all gathered left : List ℕ) (fields : List HeaderSpan) → Grows all gathered left End → 0 < length gathered
-    → EndsHead all gathered left fields ends.Short
-ends-Short all gathered left fields g some =
-    let same = at_the_end all gathered left g in
-    let old : gathered ≡ g.old = g.grown ∙ ap (λ (t : List ℕ). g.old ++ t) g.is ∙ append-nil g.old in (
+    → MayGrow gathered true → EndsHead all gathered left fields ends.Short
+ends-Short all gathered left fields g some may =
+    let same = at_the_end all gathered left g in (
       omega (arith, ap length same, some),
-      omega (arith, ap length same, ap length old, g.few),
-      subst HasNoRequest (sym (same ∙ old)) g.none,
+      subst EndsInHead (sym same) (still_in_head gathered g.old g.bytes g.grown g.is g.none g.few may),
+      g.ended refl,
     )
+
+pub ends-Limit : (all gathered left : List ℕ) (fields : List HeaderSpan) → Grows all gathered left Limit → MayGrow gathered true
+    → EndsHead all gathered left fields ends.Limit
+ends-Limit all gathered left fields g may = still_in_head gathered g.old g.bytes g.grown g.is g.none g.few may
+
+-- A whole head in the first bytes stands at the front of all.
+pub reads_all : (n : ℕ) (bytes : List ℕ) (h : RequestHead) (rest : List ℕ) → ReadsRequest (take n bytes) h rest → ReadsRequest bytes h (rest ++ drop n bytes)
+reads_all n bytes h rest reads =
+    subst (λ (t : List ℕ). ReadsRequest t h (rest ++ drop n bytes)) (take-append-drop n bytes) (ReadsRequest-append (take n bytes) h rest (drop n bytes) reads)
+
+-- What the first bytes show of the head tells whether more bytes may make one.
+pub may-Whole : (bytes : List ℕ) (fields : List HeaderSpan) (spans : RequestSpans) → IsSight (looked_at bytes) fields (sight.Whole spans) → MayGrow bytes true
+may-Whole bytes fields spans is = λ none few. absurd (none is.2.0 _ (reads_all 16384 bytes is.2.0 _ is.2.1.reads))
+
+pub may-Crowded : (bytes : List ℕ) (fields : List HeaderSpan) → IsSight (looked_at bytes) fields sight.Crowded → MayGrow bytes true
+may-Crowded bytes fields is = λ none few. absurd (none is.0 _ (reads_all 16384 bytes is.0 is.1 is.2))
+
+pub may-More : (bytes : List ℕ) (fields : List HeaderSpan) → IsSight (looked_at bytes) fields sight.More → MayGrow bytes true
+may-More bytes fields is = λ none few.
+    let le : length bytes ≤ 16384 = omega (arith, few) in record {
+      few = few;
+      unended = subst IsUnfinished (take_all 16384 bytes le) is;
+    }
 
 pub ends-Nothing : (all gathered left : List ℕ) (fields : List HeaderSpan) → Grows all gathered left End → gathered ≡ []
     → EndsHead all gathered left fields ends.Nothing

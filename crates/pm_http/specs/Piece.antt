@@ -1,5 +1,5 @@
 -- What a head is gathered from: lines, and parts of long ones.
-use Rattle.std.specs.Prelude.{◌≡◌, ◌≢◌, ◌+◌, ◌-◌, ◌<◌, ◌≤◌, ◌⊎◌, ℕ, Bool, true, false, List, [], ◌∷◌, ◌++◌, length, take, Option, Some, None}
+use Rattle.std.specs.Prelude.{◌≡◌, ◌≢◌, ◌+◌, ◌<◌, ◌≤◌, ◌⊎◌, ℕ, Bool, true, false, List, [], ◌∷◌, ◌++◌, length, take, All, Option, Some, None}
 use Rattle.httparse.specs.Grammar.{RequestHead, print_request, ReadsRequest, HasNoRequest, NeverHasRequest}
 use Rattle.httparse.specs.Spans.{IsRequestWithin, IsRequestAt}
 use Rattle.httparse.specs.declared.spans.HeaderSpan.{HeaderSpan}
@@ -7,12 +7,12 @@ use Rattle.httparse.specs.declared.spans.RequestSpans.{RequestSpans}
 use Rattle.pm_base.specs.Feed.{MOST_READ}
 use Rattle.pm_base.specs.Line.{HasNoLineFeed}
 use Rattle.pm_http.specs.declared.piece.Piece.{Piece}
-use Rattle.pm_http.specs.declared.piece.Piece.TheVariants.{Blank, Line, Part, End}
+use Rattle.pm_http.specs.declared.piece.Piece.TheVariants.{Blank, Line, Part, End, Limit}
 use Rattle.pm_http.specs.declared.sight.Sight.{Sight}
 use Rattle.pm_http.specs.declared.sight.Sight.TheVariants as sight
 use Rattle.pm_http.specs.declared.head_end.HeadEnd.{HeadEnd}
 use Rattle.pm_http.specs.declared.head_end.HeadEnd.TheVariants as ends
-use Rattle.pm_http.specs.Stream.{looked_at, HasHead}
+use Rattle.pm_http.specs.Stream.{looked_at, HasHead, IsUnfinished, EndsInHead, EndsInRequest, readable}
 
 -- The bytes are an empty line, another line, a part of a line without its end, or nothing.
 abbrev pub IsPiece : Piece → List ℕ → Type 0
@@ -21,6 +21,15 @@ IsPiece Line bytes =
     (line : List ℕ) × (bytes ≡ line ++ 10 ∷ []) × HasNoLineFeed line × (line ≢ []) × (line ≢ 13 ∷ [])
 IsPiece Part bytes = HasNoLineFeed bytes
 IsPiece End bytes = bytes ≡ []
+IsPiece Limit bytes = bytes ≡ []
+
+-- No byte is a space, so none of the bytes ends the method of a head.
+abbrev pub HasNoSpace : List ℕ → Type 0
+HasNoSpace bytes = All (λ b. b ≢ 32) bytes
+
+-- Where the head isn't begun, only empty lines are gathered.
+abbrev pub IsBegun : Bool → List ℕ → Type 0
+IsBegun begun gathered = begun ≡ false → HasNoSpace gathered
 
 -- What a line is, without its line feed: an empty one may have a carriage return.
 abbrev pub IsLineKind : List ℕ → Piece → Type 0
@@ -28,18 +37,30 @@ IsLineKind line Blank = (line ≡ []) ⊎ (line ≡ 13 ∷ [])
 IsLineKind line Line = (line ≢ []) × (line ≢ 13 ∷ [])
 IsLineKind line Part = ⊥
 IsLineKind line End = ⊥
+IsLineKind line Limit = ⊥
 
 -- A line was appended: with its line feed where it has one, else as a part.
 abbrev pub IsPushed : List ℕ → List ℕ → Bool → List ℕ → Piece → Type 0
 IsPushed old line true new piece = (new ≡ old ++ line ++ 10 ∷ []) × IsLineKind line piece
 IsPushed old line false new piece = (new ≡ old ++ line) × (piece ≡ Part)
 
--- The piece is some bytes that end no head.
-abbrev pub IsOpen : Piece → Type 0
-IsOpen Blank = ⊥
-IsOpen Line = Unit {0}
-IsOpen Part = Unit {0}
-IsOpen End = ⊥
+-- The piece is nothing, and none follows it.
+abbrev pub IsLast : Piece → Type 0
+IsLast Blank = ⊥
+IsLast Line = ⊥
+IsLast Part = ⊥
+IsLast End = Unit {0}
+IsLast Limit = Unit {0}
+
+-- The first bytes that are left end no line: 2,049 of them, or those that may still be read.
+abbrev pub BeginsLine : ℕ → List ℕ → Type 0
+BeginsLine given left = HasNoLineFeed (take 2049 left) ⊎ HasNoLineFeed (readable given left)
+
+-- How many bytes were taken behind this piece: fewer than may be at the end, and all that may be at the limit.
+abbrev pub PieceStands : ℕ → Piece → Type 0
+PieceStands given End = given < MOST_READ
+PieceStands given Limit = given ≡ MOST_READ
+PieceStands given _ = given ≤ MOST_READ
 
 -- A piece was moved behind what is gathered; none was at the end alone.
 pub record Moves (old left_old new left_new : List ℕ) (piece : Piece) : Type 0 where
@@ -54,7 +75,7 @@ abbrev pub IsCrowded : List ℕ → Sight → Type 0
 IsCrowded bytes (sight.Whole spans) = ⊥
 IsCrowded bytes sight.Crowded =
     (head : RequestHead) × (rest : List ℕ) × ReadsRequest bytes head rest × (64 < length head.fields)
-IsCrowded bytes sight.More = HasNoRequest bytes
+IsCrowded bytes sight.More = IsUnfinished bytes
 IsCrowded bytes sight.Never = NeverHasRequest bytes
 
 -- What some bytes show of the head at their front, with room for 64 fields.
@@ -62,7 +83,7 @@ abbrev pub IsSight : List ℕ → List HeaderSpan → Sight → Type 0
 IsSight bytes headers (sight.Whole spans) =
     IsRequestWithin bytes headers spans × (spans.headers ≤ 64) × ((head : RequestHead) × IsRequestAt bytes headers spans head)
 IsSight bytes headers sight.Crowded = IsCrowded bytes sight.Crowded
-IsSight bytes headers sight.More = HasNoRequest bytes
+IsSight bytes headers sight.More = IsUnfinished bytes
 IsSight bytes headers sight.Never = NeverHasRequest bytes
 
 -- The spans are those of a head at the front of the bytes, which has at most 64 fields and 16,384 bytes.
@@ -70,11 +91,6 @@ pub record IsParsed (bytes : List ℕ) (headers : List HeaderSpan) (spans : Requ
   pub within : IsRequestWithin bytes headers spans
   pub few : spans.headers ≤ 64
   pub short : spans.len ≤ 16384
-
--- As many bytes as may be read stand before the limit, and none of them ends a line.
-pub record PieceStops (given : ℕ) (left : List ℕ) : Type 0 where
-  pub reached : MOST_READ ≤ given + length left
-  pub plain : HasNoLineFeed (take (MOST_READ - given) left)
 
 -- As many bytes as may be read stand before the limit, and are fewer than a body of this size.
 pub record BodyStops (given : ℕ) (left : List ℕ) (size : ℕ) : Type 0 where
@@ -111,19 +127,39 @@ abbrev pub EndsHead : List ℕ → List ℕ → List ℕ → List HeaderSpan →
 EndsHead all gathered left headers (ends.Whole spans) = IsGathered all gathered left headers spans
 EndsHead all gathered left headers ends.Crowded = (head : RequestHead) × HasHead all head × (64 < length head.fields)
 EndsHead all gathered left headers ends.Never = NeverHasRequest (looked_at all)
-EndsHead all gathered left headers ends.Long = (16384 ≤ length all) × HasNoRequest (looked_at all)
-EndsHead all gathered left headers ends.Short = (0 < length all) × (length all < 16384) × HasNoRequest all
+EndsHead all gathered left headers ends.Long = (16384 ≤ length all) × IsUnfinished (looked_at all)
+EndsHead all gathered left headers ends.Short = (0 < length all) × EndsInHead all × (left ≡ [])
 EndsHead all gathered left headers ends.Nothing = (all ≡ []) × (left ≡ [])
+EndsHead all gathered left headers ends.Limit = EndsInHead gathered
 
 -- What one piece more gives: the reading goes on, or it ends.
 abbrev pub StepsHead : List ℕ → List ℕ → List ℕ → List HeaderSpan → Option HeadEnd → Type 0
 StepsHead all gathered left headers None = Gathers all gathered left
-StepsHead all gathered left headers (Some end) = EndsHead all gathered left headers end
+StepsHead all gathered left headers (Some end) = (all ≡ gathered ++ left) × EndsHead all gathered left headers end
 
--- Where a whole head is told, its spans are those of the bytes.
-abbrev pub IsSafe : List ℕ → List HeaderSpan → HeadEnd → Type 0
-IsSafe bytes headers (ends.Whole spans) = IsParsed bytes headers spans
-IsSafe bytes headers _ = Unit {0}
+-- How many bytes were taken where the reading of a head ends.
+abbrev pub HeadStands : ℕ → HeadEnd → Type 0
+HeadStands given ends.Short = given < MOST_READ
+HeadStands given ends.Nothing = given < MOST_READ
+HeadStands given ends.Limit = given ≡ MOST_READ
+HeadStands given _ = given ≤ MOST_READ
+
+-- The bytes answer by themselves: whatever follows, they don't end inside a request.
+abbrev pub IsAnswered : List ℕ → Type 0
+IsAnswered bytes = (rest : List ℕ) → EndsInRequest (bytes ++ rest) → ⊥
+
+-- What the gathered bytes show by themselves.
+abbrev pub ShowsEnd : List ℕ → List HeaderSpan → HeadEnd → Type 0
+ShowsEnd bytes headers (ends.Whole spans) = IsParsed bytes headers spans
+ShowsEnd bytes headers ends.Crowded = IsAnswered bytes
+ShowsEnd bytes headers ends.Never = NeverHasRequest (looked_at bytes)
+ShowsEnd bytes headers ends.Long = IsAnswered bytes
+ShowsEnd bytes headers _ = Unit {0}
+
+-- Whether more bytes may make a head of these, which are too few and hold none.
+abbrev pub MayGrow : List ℕ → Bool → Type 0
+MayGrow bytes true = HasNoRequest bytes → length bytes < 16384 → EndsInHead bytes
+MayGrow bytes false = NeverHasRequest (looked_at bytes)
 
 -- The body is filled with the bytes that are left, or they end before.
 abbrev pub Fills : List ℕ → List ℕ → List ℕ → Bool → Type 0

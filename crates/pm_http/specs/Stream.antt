@@ -1,6 +1,6 @@
 -- The requests of a stream of bytes, from its front (RFC 9112; the codes and the limits are this project's own).
 use Rattle.std.specs.Prelude.{◌≡◌, ◌+◌, ◌-◌, ◌<◌, ◌≤◌, ◌⊎◌, ℕ, List, [], ◌++◌, length, take}
-use Rattle.httparse.specs.Grammar.{RequestHead, print_request, ReadsRequest, HasNoRequest, NeverHasRequest}
+use Rattle.httparse.specs.Grammar.{RequestHead, print_request, ReadsRequest, HasNoRequest, NeverHasRequest, MayBecomeRequest, EndsInTarget}
 use Rattle.pm_base.specs.declared.code.Code.{Code}
 use Rattle.pm_base.specs.declared.code.Code.TheVariants.{H1, H2}
 use Rattle.pm_base.specs.Feed.{MOST_READ}
@@ -33,10 +33,16 @@ pub record IsFirst (bytes : List ℕ) (request : Request) (after : List ℕ) : T
   pub size : body_size head ≡ Bytes (length request.body)
   pub parts : IsOf head request
 
+-- No whole head stands at the front, and more bytes may make one: some do, or the bytes end inside a target, whose test
+-- for UTF-8 waits for its end.
+pub record IsUnfinished (bytes : List ℕ) : Type 0 where
+  pub none : HasNoRequest bytes
+  pub may : MayBecomeRequest bytes
+
 -- The bytes that are looked at hold no whole head: none that may follow give one, or there are enough of them.
 abbrev pub HasNoHead : List ℕ → Code → Type 0
 HasNoHead bytes H1 = NeverHasRequest (looked_at bytes)
-HasNoHead bytes H2 = (16384 ≤ length bytes) × HasNoRequest (looked_at bytes)
+HasNoHead bytes H2 = (16384 ≤ length bytes) × IsUnfinished (looked_at bytes)
 HasNoHead bytes _ = ⊥
 
 -- The request at the front is refused by this code: it has no head, or its head breaks a rule.
@@ -44,11 +50,10 @@ abbrev pub IsRefused : List ℕ → Code → Type 0
 IsRefused bytes code =
     HasNoHead bytes code ⊎ ((head : RequestHead) × HasHead bytes head × (body_size head ≡ Refused code))
 
--- The bytes end inside a head.
+-- The bytes end inside a head, or before its first byte.
 pub record EndsInHead (bytes : List ℕ) : Type 0 where
-  pub begun : 0 < length bytes
   pub few : length bytes < 16384
-  pub unended : HasNoRequest bytes
+  pub unended : IsUnfinished bytes
 
 -- The bytes end inside the body of a request.
 pub record EndsInBody (bytes : List ℕ) : Type 0 where
@@ -60,19 +65,32 @@ pub record EndsInBody (bytes : List ℕ) : Type 0 where
   pub size_is : body_size head ≡ Bytes size
   pub less : length body < size
 
--- As many bytes as may be read stand before the limit, and give no request: those of them that are looked at hold no whole
--- head, or they end inside the body of a request.
+-- The bytes end inside a request, or before its first byte.
+abbrev pub EndsInRequest : List ℕ → Type 0
+EndsInRequest bytes = EndsInHead bytes ⊎ EndsInBody bytes
+
+-- Of the bytes that are left, those that may still be read.
+abbrev pub readable : ℕ → List ℕ → List ℕ
+readable given left = take (MOST_READ - given) left
+
+-- As many bytes as may be read stand before the limit, and those that may still be read end inside a request.
 pub record StopsAtLimit (given : ℕ) (left : List ℕ) : Type 0 where
   pub reached : MOST_READ ≤ given + length left
-  pub unanswered : HasNoRequest (looked_at (take (MOST_READ - given) left)) ⊎ EndsInBody (take (MOST_READ - given) left)
+  pub inside : EndsInRequest (readable given left)
+
+-- What may be told all the same where those bytes end inside a request: H1, where they end inside a target.
+abbrev pub MayBeTold : List ℕ → Next → Type 0
+MayBeTold bytes (next.Framing H1 at) = EndsInTarget bytes
+MayBeTold bytes _ = ⊥
 
 -- What the bytes from this offset on begin with, and what is left behind it: a request, the end, a refusal, or a request
--- that is cut short. The cases exclude each other, but that H1 may stand where H2 or a cut does.
+-- that is cut short. The cases exclude each other, but that H1 may stand for H2 or a cut where the bytes that are looked at
+-- end inside a target.
 abbrev pub IsNext : List ℕ → ℕ → Next → List ℕ → Type 0
 IsNext bytes offset (next.Request request) after = IsFirst bytes request after
 IsNext bytes offset next.End after = (bytes ≡ []) × (after ≡ [])
 IsNext bytes offset (next.Framing code at) after = (at ≡ offset) × IsRefused bytes code
-IsNext bytes offset (next.CutShort at) after = (at ≡ offset) × (EndsInHead bytes ⊎ EndsInBody bytes)
+IsNext bytes offset (next.CutShort at) after = (at ≡ offset) × (0 < length bytes) × EndsInRequest bytes
 
 -- Where an offset is told, it is that of the first byte.
 abbrev pub IsPlaced : ℕ → Next → Type 0

@@ -1,7 +1,7 @@
 //! The reading of a body.
-ghost use Rattle.std.specs.Prelude.{◌≡◌, ◌≤◌, ◌+◌, Err, length, vec_len, IfOk};
+ghost use Rattle.std.specs.Prelude.{◌≡◌, ◌≤◌, ◌+◌, ◌<◌, false, Ok, Err, length, vec_len, IfOk};
 ghost use Rattle.pm_base.specs.Causes.{Rose};
-ghost use Rattle.pm_base.specs.Feed.{left_to, KnowsEnd};
+ghost use Rattle.pm_base.specs.Feed.{left_to, KnowsEnd, MOST_READ};
 ghost use Rattle.pm_http.specs.Piece.{BodyStops, Fills};
 
 use crate::HttpError;
@@ -27,6 +27,8 @@ pub fn fill<S: Source>(
     ensures room { vec_len body.new ≡ vec_len body.old }
     ensures given { S.IsTold → feed.new.given + length (left_to feed.new (S.left source.new)) ≡ feed.old.given + length (left_to feed.old (S.left source.old)) }
     ensures knows_end { S.IsTold → KnowsEnd feed.new (S.left source.new) }
+    ensures most { feed.old.given ≤ MOST_READ → feed.new.given ≤ MOST_READ }
+    ensures cut { S.IsTold → result ≡ Ok false → feed.new.given < MOST_READ }
     ensures limit { S.IsTold → result ≡ Err HttpError.Limit → BodyStops feed.old.given (left_to feed.old (S.left source.old)) (vec_len body.old) }
     ensures failed { result ≡ Err HttpError.ReadFault → Rose (S.faults source.old) (S.faults source.new) }
     ensures later { S.faults source.old ≤ S.faults source.new }

@@ -1,9 +1,10 @@
 //! The reading of a head.
-ghost use Rattle.std.specs.Prelude.{◌≡◌, ◌≢◌, ◌<◌, ◌≤◌, ◌+◌, [], ℕ, List, None, Ok, Err, length, vec_len, IfOk, OnOk, IfSome};
+ghost use Rattle.std.specs.Prelude.{◌≡◌, ◌≢◌, ◌<◌, ◌≤◌, ◌+◌, ◌++◌, false, [], ℕ, List, None, Ok, Err, length, vec_len, IfOk, OnOk, IfSome};
+ghost use Rattle.httparse.specs.Grammar.{HasNoRequest};
 ghost use Rattle.pm_base.specs.Causes.{Rose};
-ghost use Rattle.pm_base.specs.Feed.{left_to, KnowsEnd};
-ghost use Rattle.pm_http.specs.Stream.{looked_at, StopsAtLimit};
-ghost use Rattle.pm_http.specs.Piece.{PieceStops, Gathers, Grows, EndsHead, StepsHead, IsOpen, IsSafe};
+ghost use Rattle.pm_base.specs.Feed.{left_to, KnowsEnd, MOST_READ};
+ghost use Rattle.pm_http.specs.Stream.{looked_at};
+ghost use Rattle.pm_http.specs.Piece.{Gathers, Grows, EndsHead, StepsHead, HeadStands, PieceStands, IsBegun, IsLast, ShowsEnd, MayGrow};
 
 use crate::HttpError;
 use crate::piece::{Piece, read_piece};
@@ -27,14 +28,16 @@ pub enum HeadEnd {
     Short,
     /// At the end of the input, before a byte.
     Nothing,
+    /// Inside a head or before its first byte, where no more may be read.
+    Limit,
 }
 
 // The most bytes of a head.
 const MOST_HEAD: usize = 16_384;
 
 /// Gathers the head at the front of what is left, with its fields in `fields`. A line is looked at once, and the whole head
-/// is parsed behind an empty line, so the work is in proportion to the bytes, but where a head begins with many empty
-/// lines: those are parsed again behind each of them, at the worst 134 million bytes for one head.
+/// is parsed behind the empty line that ends it, so the work is in proportion to the bytes, however they come. It is parsed
+/// once more for each line of over 2,048 bytes, at the most.
 pub fn read_head<S: Source>(
     alloc: Global,
     feed: &mut Feed,
@@ -45,43 +48,50 @@ pub fn read_head<S: Source>(
     requires knows_end { S.IsTold → KnowsEnd feed.old (S.left source.old) }
     requires empty { head.old.items ≡ [] }
     requires room { length fields.old ≡ 64 }
+    ensures split { S.IsTold → OnOk result (left_to feed.old (S.left source.old) ≡ head.new.items ++ left_to feed.new (S.left source.new)) }
     ensures ends { S.IsTold → IfOk result (EndsHead (left_to feed.old (S.left source.old)) head.new.items (left_to feed.new (S.left source.new)) fields.new) }
-    ensures safe { IfOk result (IsSafe head.new.items fields.new) }
+    ensures shows { IfOk result (ShowsEnd head.new.items fields.new) }
     ensures given { S.IsTold → feed.new.given + length (left_to feed.new (S.left source.new)) ≡ feed.old.given + length (left_to feed.old (S.left source.old)) }
     ensures knows_end { S.IsTold → KnowsEnd feed.new (S.left source.new) }
-    ensures limit { S.IsTold → result ≡ Err HttpError.Limit → StopsAtLimit feed.old.given (left_to feed.old (S.left source.old)) }
+    ensures stands { S.IsTold → IfOk result (HeadStands feed.new.given) }
+    ensures no_limit { result ≡ Err HttpError.Limit → ⊥ }
     ensures failed { result ≡ Err HttpError.ReadFault → Rose (S.faults source.old) (S.faults source.new) }
     ensures later { S.faults source.old ≤ S.faults source.new }
 {
+    let mut begun = false;
     'pieces: loop {
-        if let Some(end) = read_on(alloc, feed, source, head, fields)? {
+        if let Some(end) = read_on(alloc, feed, source, head, fields, &mut begun)? {
             return Ok(end);
         }
     }
 }
 
-// Gathers one piece more.
+// Gathers one piece more. The head is begun where a line was gathered that isn't empty.
 fn read_on<S: Source>(
     alloc: Global,
     feed: &mut Feed,
     source: &mut S,
     head: &mut Vec<u8>,
     fields: &mut [HeaderSpan],
+    begun: &mut bool,
 ) -> Result<Option<HeadEnd>, HttpError>
     requires knows_end { S.IsTold → KnowsEnd feed.old (S.left source.old) }
     requires few { vec_len head.old < 16384 }
     requires room { length fields.old ≡ 64 }
-    ensures steps { S.IsTold → (all : List ℕ) → Gathers all head.old.items (left_to feed.old (S.left source.old)) → IfOk result (StepsHead all head.new.items (left_to feed.new (S.left source.new)) fields.new) }
+    ensures begun { S.IsTold → IsBegun begun.old head.old.items → OnOk result (IsBegun begun.new head.new.items) }
+    ensures steps { S.IsTold → (all : List ℕ) → IsBegun begun.old head.old.items → Gathers all head.old.items (left_to feed.old (S.left source.old)) → IfOk result (StepsHead all head.new.items (left_to feed.new (S.left source.new)) fields.new) }
     ensures grows { IfOk result (λ o. o ≡ None → (vec_len head.old < vec_len head.new) × (vec_len head.new < 16384)) }
-    ensures safe { IfOk result (λ o. IfSome o (IsSafe head.new.items fields.new)) }
+    ensures shows { IfOk result (λ o. IfSome o (ShowsEnd head.new.items fields.new)) }
     ensures given { S.IsTold → feed.new.given + length (left_to feed.new (S.left source.new)) ≡ feed.old.given + length (left_to feed.old (S.left source.old)) }
     ensures knows_end { S.IsTold → KnowsEnd feed.new (S.left source.new) }
-    ensures limit { S.IsTold → result ≡ Err HttpError.Limit → PieceStops feed.old.given (left_to feed.old (S.left source.old)) }
+    ensures stands { S.IsTold → IfOk result (λ o. IfSome o (HeadStands feed.new.given)) }
+    ensures no_limit { result ≡ Err HttpError.Limit → ⊥ }
     ensures failed { result ≡ Err HttpError.ReadFault → Rose (S.faults source.old) (S.faults source.new) }
     ensures later { S.faults source.old ≤ S.faults source.new }
 {
     let piece = read_piece(feed, source, head)?;
-    match judge(alloc, piece, head, fields) {
+    *begun = is_begun(*begun, piece);
+    match judge(alloc, piece, *begun, head, fields) {
         Ok(end) => Ok(end),
         Err(_) => Err(HttpError::Memory),
     }
@@ -91,32 +101,47 @@ fn read_on<S: Source>(
 fn judge(
     alloc: Global,
     piece: Piece,
+    begun: bool,
     head: &[u8],
     fields: &mut [HeaderSpan],
 ) -> Result<Option<HeadEnd>, AllocError>
     requires room { length fields.old ≡ 64 }
-    ensures steps { (all left : List ℕ) → Grows all head.now left piece → IfOk result (StepsHead all head.now left fields.new) }
-    ensures few { IfOk result (λ o. o ≡ None → (length head.now < 16384) × (piece ≡ Piece.End → ⊥)) }
-    ensures safe { IfOk result (λ o. IfSome o (IsSafe head.now fields.new)) }
+    ensures steps { (all left : List ℕ) → IsBegun begun head.now → Grows all head.now left piece → IfOk result (StepsHead all head.now left fields.new) }
+    ensures few { IfOk result (λ o. o ≡ None → (length head.now < 16384) × (IsLast piece → ⊥)) }
+    ensures shows { IfOk result (λ o. IfSome o (ShowsEnd head.now fields.new)) }
+    ensures stands { (given : ℕ) → PieceStands given piece → IfOk result (λ o. IfSome o (HeadStands given)) }
 {
     match piece {
         Piece::End => at_end(alloc, head, fields),
-        Piece::Blank => in_between(alloc, head, fields),
+        Piece::Limit => at_limit(alloc, head, fields),
+        Piece::Blank if begun => in_between(alloc, head, fields),
+        Piece::Blank => unended(alloc, head, fields),
         Piece::Line => unended(alloc, head, fields),
         Piece::Part => unended(alloc, head, fields),
     }
 }
 
-// What the gathered bytes tell behind a piece that completes no head.
+// Whether the head is begun behind this piece.
+fn is_begun(begun: bool, piece: Piece) -> bool
+    ensures { result ≡ false → (begun ≡ false) × (piece ≡ Piece.Blank) }
+{
+    match piece {
+        Piece::Blank => begun,
+        Piece::Line | Piece::Part | Piece::End | Piece::Limit => true,
+    }
+}
+
+// What the gathered bytes tell, where they hold no whole head.
 fn unended(
     alloc: Global,
     head: &[u8],
     fields: &mut [HeaderSpan],
 ) -> Result<Option<HeadEnd>, AllocError>
     requires room { length fields.old ≡ 64 }
-    ensures steps { (all left : List ℕ) (piece : Piece) → IsOpen piece → Grows all head.now left piece → IfOk result (StepsHead all head.now left fields.new) }
+    ensures steps { (all left : List ℕ) (piece : Piece) → (IsLast piece → ⊥) → HasNoRequest head.now → Grows all head.now left piece → IfOk result (StepsHead all head.now left fields.new) }
     ensures few { IfOk result (λ o. o ≡ None → length head.now < 16384) }
-    ensures safe { IfOk result (λ o. IfSome o (IsSafe head.now fields.new)) }
+    ensures shows { IfOk result (λ o. IfSome o (ShowsEnd head.now fields.new)) }
+    ensures stands { (given : ℕ) → given ≤ MOST_READ → IfOk result (λ o. IfSome o (HeadStands given)) }
 {
     if head.len() < MOST_HEAD {
         return Ok(None);
@@ -133,14 +158,46 @@ fn at_end(
     requires room { length fields.old ≡ 64 }
     ensures steps { (all left : List ℕ) → Grows all head.now left Piece.End → IfOk result (StepsHead all head.now left fields.new) }
     ensures some { OnOk result (result ≢ Ok None) }
-    ensures safe { IfOk result (λ o. IfSome o (IsSafe head.now fields.new)) }
+    ensures shows { IfOk result (λ o. IfSome o (ShowsEnd head.now fields.new)) }
+    ensures stands { (given : ℕ) → given < MOST_READ → IfOk result (λ o. IfSome o (HeadStands given)) }
 {
     if head.is_empty() {
         return Ok(Some(HeadEnd::Nothing));
     }
+    if may_grow(alloc, head, fields)? {
+        Ok(Some(HeadEnd::Short))
+    } else {
+        Ok(Some(HeadEnd::Never))
+    }
+}
+
+// What the gathered bytes tell where no more may be read.
+fn at_limit(
+    alloc: Global,
+    head: &[u8],
+    fields: &mut [HeaderSpan],
+) -> Result<Option<HeadEnd>, AllocError>
+    requires room { length fields.old ≡ 64 }
+    ensures steps { (all left : List ℕ) → Grows all head.now left Piece.Limit → IfOk result (StepsHead all head.now left fields.new) }
+    ensures some { OnOk result (result ≢ Ok None) }
+    ensures shows { IfOk result (λ o. IfSome o (ShowsEnd head.now fields.new)) }
+    ensures stands { (given : ℕ) → given ≡ MOST_READ → IfOk result (λ o. IfSome o (HeadStands given)) }
+{
+    if may_grow(alloc, head, fields)? {
+        Ok(Some(HeadEnd::Limit))
+    } else {
+        Ok(Some(HeadEnd::Never))
+    }
+}
+
+// Whether more bytes may make a head of the gathered ones.
+fn may_grow(alloc: Global, head: &[u8], fields: &mut [HeaderSpan]) -> Result<bool, AllocError>
+    requires room { length fields.old ≡ 64 }
+    ensures { IfOk result (MayGrow head.now) }
+{
     match look(alloc, front(head), fields)? {
-        Sight::Never => Ok(Some(HeadEnd::Never)),
-        Sight::Whole(_) | Sight::Crowded | Sight::More => Ok(Some(HeadEnd::Short)),
+        Sight::Never => Ok(false),
+        Sight::Whole(_) | Sight::Crowded | Sight::More => Ok(true),
     }
 }
 
@@ -151,9 +208,10 @@ fn in_between(
     fields: &mut [HeaderSpan],
 ) -> Result<Option<HeadEnd>, AllocError>
     requires room { length fields.old ≡ 64 }
-    ensures steps { (all left : List ℕ) (piece : Piece) → (piece ≡ Piece.End → ⊥) → Grows all head.now left piece → IfOk result (StepsHead all head.now left fields.new) }
+    ensures steps { (all left : List ℕ) (piece : Piece) → (IsLast piece → ⊥) → Grows all head.now left piece → IfOk result (StepsHead all head.now left fields.new) }
     ensures few { IfOk result (λ o. o ≡ None → length head.now < 16384) }
-    ensures safe { IfOk result (λ o. IfSome o (IsSafe head.now fields.new)) }
+    ensures shows { IfOk result (λ o. IfSome o (ShowsEnd head.now fields.new)) }
+    ensures stands { (given : ℕ) → given ≤ MOST_READ → IfOk result (λ o. IfSome o (HeadStands given)) }
 {
     match look(alloc, front(head), fields)? {
         Sight::Whole(spans) => Ok(Some(HeadEnd::Whole(spans))),

@@ -5,10 +5,18 @@ use std::alloc::{AllocError, Global};
 use std::process::Abort;
 use std::test::Fail;
 
-// How the first request of the bytes is framed.
+// A request, of 18 bytes.
+const FIRST: &[u8] = b"GET / HTTP/1.1\r\n\r\n";
+
+// How the first request of the bytes is framed, where another one stands before it.
 fn framing_of(alloc: Global, bytes: &[u8]) -> Result<Option<(Code, u64)>, AllocError> {
-    let mut source = MemSource::new(alloc, bytes, &[])?;
+    let mut both = Vec::from_slice(alloc, FIRST)?;
+    both.extend_from_slice(bytes)?;
+    let mut source = MemSource::new(alloc, &both, &[])?;
     let mut feed = Feed::new(alloc)?;
+    let Ok(Next::Request(_)) = next_request(alloc, &mut feed, &mut source) else {
+        return Ok(None);
+    };
     match next_request(alloc, &mut feed, &mut source) {
         Ok(Next::Framing { code, offset }) => Ok(Some((code, offset))),
         _ => Ok(None),
@@ -60,7 +68,7 @@ fn a_refusal_has_the_code_of_the_first_rule_broken(rt: HostRuntime) -> Result<()
     for (bytes, code) in rows {
         assert_eq!(rt;
             framing_of(rt.alloc(), bytes)?,
-            Some((code, 0)),
+            Some((code, 18)),
             "at {bytes:?}"
         );
     }
@@ -74,13 +82,28 @@ fn a_head_has_at_most_16384_bytes(rt: HostRuntime) -> Result<(), Fail> {
     assert_eq!(rt; whole.len(), 16_384);
     assert!(rt; first_of(rt.alloc(), &whole)?.is_some());
     let long = head_of(rt.alloc(), front, 16_385)?;
-    assert_eq!(rt; framing_of(rt.alloc(), &long)?, Some((Code::H2, 0)));
+    assert_eq!(rt; framing_of(rt.alloc(), &long)?, Some((Code::H2, 18)));
+    Ok(())
+}
+
+#[test]
+fn empty_lines_before_a_head_belong_to_it(rt: HostRuntime) -> Result<(), Fail> {
+    for (count, refusal) in [
+        (16_366, None),
+        (16_367, Some((Code::H2, 18))),
+        (40_000, Some((Code::H2, 18))),
+    ] {
+        let mut bytes = Vec::new(rt.alloc());
+        bytes.resize(count, b'\n')?;
+        bytes.extend_from_slice(FIRST)?;
+        assert_eq!(rt; framing_of(rt.alloc(), &bytes)?, refusal, "at {count}");
+    }
     Ok(())
 }
 
 #[test]
 fn a_head_has_at_most_64_fields(rt: HostRuntime) -> Result<(), Fail> {
-    for (count, refusal) in [(64, None), (65, Some((Code::H2, 0)))] {
+    for (count, refusal) in [(64, None), (65, Some((Code::H2, 18)))] {
         let mut bytes = Vec::from_slice(rt.alloc(), b"GET / HTTP/1.1\n")?;
         for _ in 0..count {
             bytes.extend_from_slice(b"a:\n")?;
@@ -114,12 +137,16 @@ fn a_connection_closes_by_the_word_or_the_version(rt: HostRuntime) -> Result<(),
 
 #[test]
 fn the_end_inside_a_request_is_a_cut(rt: HostRuntime) -> Result<(), Fail> {
-    let rows: [(&[u8], Option<u64>); 5] = [
+    let rows: [(&[u8], Option<u64>); 6] = [
         (b"", None),
         (b"GET / HTTP/1.1\r\n", Some(0)),
         (b"\n", Some(0)),
         (b"GET /\xff", Some(0)),
         (b"PUT / HTTP/1.1\r\nContent-Length: 3\r\n\r\n{}", Some(0)),
+        (
+            b"PUT / HTTP/1.1\r\nContent-Length: 16777216\r\n\r\n",
+            Some(0),
+        ),
     ];
     for (bytes, cut) in rows {
         let mut source = MemSource::new(rt.alloc(), bytes, &[])?;

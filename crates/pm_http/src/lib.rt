@@ -13,6 +13,8 @@ mod kind;
 mod method;
 mod next;
 mod piece;
+#[cfg(test)]
+mod plain_tests;
 mod pushing;
 mod query;
 mod reading;

@@ -1,9 +1,8 @@
 //! The pieces in which a head is gathered: its lines. A head ends with a line, so no byte behind it is taken.
-ghost use Rattle.std.specs.Prelude.{◌≡◌, ◌<◌, ◌≤◌, ◌+◌, ℕ, Ok, Err, length, vec_len, take, IfOk};
+ghost use Rattle.std.specs.Prelude.{◌≡◌, ◌<◌, ◌≤◌, ◌+◌, ℕ, Err, length, vec_len, IfOk};
 ghost use Rattle.pm_base.specs.Causes.{Rose};
-ghost use Rattle.pm_base.specs.Feed.{left_to, KnowsEnd};
-ghost use Rattle.pm_base.specs.Line.{HasNoLineFeed};
-ghost use Rattle.pm_http.specs.Piece.{Moves, PieceStops, IsPushed, IsLineKind};
+ghost use Rattle.pm_base.specs.Feed.{left_to, KnowsEnd, MOST_READ};
+ghost use Rattle.pm_http.specs.Piece.{Moves, IsLast, BeginsLine, PieceStands, IsPushed, IsLineKind};
 
 use crate::HttpError;
 use crate::taking::take_behind;
@@ -21,6 +20,8 @@ pub enum Piece {
     Part,
     /// Nothing, at the end.
     End,
+    /// Nothing, where no more may be read.
+    Limit,
 }
 
 // The most bytes of a line that a feed lends.
@@ -35,10 +36,11 @@ pub fn read_piece<S: Source>(
     requires knows_end { S.IsTold → KnowsEnd feed.old (S.left source.old) }
     requires room { vec_len head.old ≤ 16384 }
     ensures moves { S.IsTold → IfOk result (Moves head.old.items (left_to feed.old (S.left source.old)) head.new.items (left_to feed.new (S.left source.new))) }
-    ensures grows { IfOk result (λ piece. (piece ≡ Piece.End → ⊥) → vec_len head.old < vec_len head.new) }
+    ensures grows { IfOk result (λ piece. (IsLast piece → ⊥) → vec_len head.old < vec_len head.new) }
     ensures given { S.IsTold → feed.new.given + length (left_to feed.new (S.left source.new)) ≡ feed.old.given + length (left_to feed.old (S.left source.old)) }
     ensures knows_end { S.IsTold → KnowsEnd feed.new (S.left source.new) }
-    ensures limit { S.IsTold → result ≡ Err HttpError.Limit → PieceStops feed.old.given (left_to feed.old (S.left source.old)) }
+    ensures stands { S.IsTold → IfOk result (PieceStands feed.new.given) }
+    ensures no_limit { result ≡ Err HttpError.Limit → ⊥ }
     ensures failed { result ≡ Err HttpError.ReadFault → Rose (S.faults source.old) (S.faults source.new) }
     ensures later { S.faults source.old ≤ S.faults source.new }
 {
@@ -54,8 +56,9 @@ pub fn read_piece<S: Source>(
         }
         Ok(Line::Long) => take_part(feed, source, head),
         Ok(Line::End) => Ok(Piece::End),
+        // The bytes before the limit may complete the answer.
+        Err(FeedError::Limit) => take_part(feed, source, head),
         Err(FeedError::Failed) => Err(HttpError::ReadFault),
-        Err(FeedError::Limit) => Err(HttpError::Limit),
     }
 }
 
@@ -84,7 +87,7 @@ fn kind_of_line(line: &[u8]) -> Piece
     }
 }
 
-// Moves the first bytes of a long line.
+// Moves the first bytes of a line that is long, or that the limit cuts.
 fn take_part<S: Source>(
     feed: &mut Feed,
     source: &mut S,
@@ -92,11 +95,12 @@ fn take_part<S: Source>(
 ) -> Result<Piece, HttpError>
     requires knows_end { S.IsTold → KnowsEnd feed.old (S.left source.old) }
     requires room { vec_len head.old ≤ 16384 }
-    ensures moves { S.IsTold → HasNoLineFeed (take 2049 (left_to feed.old (S.left source.old))) → IfOk result (Moves head.old.items (left_to feed.old (S.left source.old)) head.new.items (left_to feed.new (S.left source.new))) }
-    ensures grows { IfOk result (λ piece. (piece ≡ Piece.End → ⊥) → vec_len head.old < vec_len head.new) }
+    ensures moves { S.IsTold → BeginsLine feed.old.given (left_to feed.old (S.left source.old)) → IfOk result (Moves head.old.items (left_to feed.old (S.left source.old)) head.new.items (left_to feed.new (S.left source.new))) }
+    ensures grows { IfOk result (λ piece. (IsLast piece → ⊥) → vec_len head.old < vec_len head.new) }
     ensures given { S.IsTold → feed.new.given + length (left_to feed.new (S.left source.new)) ≡ feed.old.given + length (left_to feed.old (S.left source.old)) }
     ensures knows_end { S.IsTold → KnowsEnd feed.new (S.left source.new) }
-    ensures limit { S.IsTold → result ≡ Err HttpError.Limit → PieceStops feed.old.given (left_to feed.old (S.left source.old)) }
+    ensures stands { S.IsTold → IfOk result (PieceStands feed.new.given) }
+    ensures no_limit { result ≡ Err HttpError.Limit → ⊥ }
     ensures failed { result ≡ Err HttpError.ReadFault → Rose (S.faults source.old) (S.faults source.new) }
     ensures later { S.faults source.old ≤ S.faults source.new }
 {
@@ -110,6 +114,9 @@ fn take_part<S: Source>(
             Ok(if count == 0 { Piece::End } else { Piece::Part })
         }
         Err(FeedError::Failed) => Err(HttpError::ReadFault),
-        Err(FeedError::Limit) => Err(HttpError::Limit),
+        Err(FeedError::Limit) => {
+            head.truncate(at);
+            Ok(Piece::Limit)
+        }
     }
 }

@@ -4,9 +4,9 @@ ghost use Rattle.std.specs.List.{All};
 ghost use Rattle.httparse.specs.Grammar.{RequestHead};
 ghost use Rattle.httparse.specs.Spans.{IsRequestAt, IsHeaderWithin, header_bytes};
 ghost use Rattle.pm_base.specs.Causes.{Rose};
-ghost use Rattle.pm_base.specs.Feed.{left_to, KnowsEnd};
+ghost use Rattle.pm_base.specs.Feed.{left_to, KnowsEnd, MOST_READ};
 ghost use Rattle.pm_http.specs.Head.{body_size, first_of, values_of, IsWithinLimit};
-ghost use Rattle.pm_http.specs.Stream.{StopsAtLimit, IsNext, IsPlaced, IsSmall, IsOf};
+ghost use Rattle.pm_http.specs.Stream.{StopsAtLimit, MayBeTold, readable, IsNext, IsPlaced, IsSmall, IsOf};
 ghost use Rattle.pm_http.specs.Piece.{IsGathered, IsParsed};
 
 use crate::body::{body_room, fill};
@@ -36,7 +36,10 @@ pub fn next_request<S: Source>(
     ensures small { IfOk result IsSmall }
     ensures given { S.IsTold → feed.new.given + length (left_to feed.new (S.left source.new)) ≡ feed.old.given + length (left_to feed.old (S.left source.old)) }
     ensures knows_end { S.IsTold → KnowsEnd feed.new (S.left source.new) }
+
+    // The limit comes exactly where it is met, but for the choice that is left open.
     ensures limit { S.IsTold → result ≡ Err HttpError.Limit → StopsAtLimit feed.old.given (left_to feed.old (S.left source.old)) }
+    ensures within { S.IsTold → IfOk result (λ next. StopsAtLimit feed.old.given (left_to feed.old (S.left source.old)) → MayBeTold (readable feed.old.given (left_to feed.old (S.left source.old))) next) }
     ensures failed { result ≡ Err HttpError.ReadFault → Rose (S.faults source.old) (S.faults source.new) }
     ensures later { S.faults source.old ≤ S.faults source.new }
 {
@@ -59,6 +62,7 @@ pub fn next_request<S: Source>(
         }),
         HeadEnd::Short => Ok(Next::CutShort { offset }),
         HeadEnd::Nothing => Ok(Next::End),
+        HeadEnd::Limit => Err(HttpError::Limit),
     }
 }
 
@@ -80,6 +84,7 @@ fn read_rest<S: Source>(
     ensures given { S.IsTold → feed.new.given + length (left_to feed.new (S.left source.new)) ≡ feed.old.given + length (left_to feed.old (S.left source.old)) }
     ensures knows_end { S.IsTold → KnowsEnd feed.new (S.left source.new) }
     ensures limit { S.IsTold → (all : List ℕ) → IsGathered all head.now (left_to feed.old (S.left source.old)) fields.now spans → feed.old.given + length (left_to feed.old (S.left source.old)) ≡ offset + length all → result ≡ Err HttpError.Limit → StopsAtLimit offset all }
+    ensures within { S.IsTold → (all : List ℕ) → IsGathered all head.now (left_to feed.old (S.left source.old)) fields.now spans → feed.old.given + length (left_to feed.old (S.left source.old)) ≡ offset + length all → feed.old.given ≤ MOST_READ → IfOk result (λ next. StopsAtLimit offset all → MayBeTold (readable offset all) next) }
     ensures failed { result ≡ Err HttpError.ReadFault → Rose (S.faults source.old) (S.faults source.new) }
     ensures later { S.faults source.old ≤ S.faults source.new }
 {

@@ -1,6 +1,7 @@
 //! What no contract says of a stream: that its requests are read however the source cuts it, beside a plain reading.
 ghost use Rattle.std.specs.Prelude.{List, []};
 
+use crate::plain_tests::{Plain, plain_request};
 use crate::*;
 use pm_base::{Failed, Feed, Source};
 use std::alloc::{AllocError, Global};
@@ -29,98 +30,65 @@ impl Source for Slow<'_> {
     }
 }
 
-// Two requests, white space behind them that begins a third, and what is read of them.
+// Requests that stand one behind the other.
 const STREAM: &[u8] =
-    b"PUT /jobs/a HTTP/1.1\r\nPm-Moment: \t12 \r\nContent-Length: 2\r\npm-moment: 3\r\n\r\n{}\r\nDELETE /jobs/a?b HTTP/1.0\n\n\r\n";
+    b"PUT /jobs/a HTTP/1.1\r\nPm-Moment: \t12 \r\nContent-Length: 2\r\npm-moment: 3\r\n\r\n{}\
+\r\nDELETE /jobs/a?b HTTP/1.0\n\n\
+GET /files HTTP/1.1\nconnection: keep-alive ,\tClose\n\r\n\
+\n\r\n\nPOST /events HTTP/1.1\r\ncontent-length:  000000000011 \r\nContent-length2: 7\r\nConnection: closed\r\n\r\nA line\n\r\n\r\n";
 
-// Whether these are read from the stream, at most so many bytes at a time.
-fn reads_stream(alloc: Global, most: usize) -> Result<bool, AllocError> {
-    let mut source = Slow { left: STREAM, most };
-    let mut feed = Feed::new(alloc)?;
-    let Ok(Next::Request(first)) = next_request(alloc, &mut feed, &mut source) else {
-        return Ok(false);
-    };
-    let Ok(Next::Request(second)) = next_request(alloc, &mut feed, &mut source) else {
-        return Ok(false);
-    };
-    let Ok(Next::CutShort { offset }) = next_request(alloc, &mut feed, &mut source) else {
-        return Ok(false);
-    };
-    Ok(is_put(&first) && is_delete(&second) && offset == STREAM.len() as u64 - 2)
-}
+// How many requests stand in it.
+const MANY: usize = 4;
 
-fn is_put(request: &Request) -> bool {
+// Whether a request is the one that the plain reading finds.
+fn is_plain(request: &Request, plain: &Plain<'_>, body: &[u8]) -> bool {
     let moment = match &request.moment {
-        Some(moment) => moment.as_bytes(),
-        None => b"",
+        Some(moment) => Some(moment.as_bytes()),
+        None => None,
     };
-    request.method.as_bytes() == b"PUT".as_slice()
-        && request.target.as_bytes() == b"/jobs/a".as_slice()
-        && moment == b"12".as_slice()
-        && !request.close
-        && request.body.as_bytes() == b"{}".as_slice()
+    request.method.as_bytes() == plain.method
+        && request.target.as_bytes() == plain.target
+        && moment == plain.moment
+        && request.close == plain.close
+        && request.body.as_bytes() == body
 }
 
-fn is_delete(request: &Request) -> bool {
-    request.method.as_bytes() == b"DELETE".as_slice()
-        && request.target.as_bytes() == b"/jobs/a?b".as_slice()
-        && request.moment.is_none()
-        && request.close
-        && request.body.is_empty()
-}
-
-#[test]
-fn requests_are_those_of_the_bytes_however_the_source_cuts_them(
-    rt: HostRuntime,
-) -> Result<(), Fail> {
-    for most in [1, 2, 3, 7, 20, 85, 1000] {
-        assert!(rt; reads_stream(rt.alloc(), most)?, "at {most}");
-    }
-    Ok(())
-}
-
-// The length of the first request of the bytes, found line by line. Of a length it knows one digit.
-fn plain_length(bytes: &[u8]) -> usize {
-    let mut head: usize = 0;
-    let mut body: usize = 0;
-    let mut begun = false;
-    for line in bytes.split(|byte| *byte == b'\n') {
-        head = head.saturating_add(line.len()).saturating_add(1);
-        if let Some([digit, ..]) = line.strip_prefix(b"Content-Length: ".as_slice()) {
-            body = usize::from(digit.saturating_sub(b'0'));
-        }
-        if 2 <= line.len() {
-            begun = true;
-        } else if begun {
-            return head.saturating_add(body);
-        }
-    }
-    head
-}
-
-// Whether the requests of the stream end where the plain reading says, read so many bytes at a time.
-fn ends_as_plain(alloc: Global, most: usize) -> Result<bool, AllocError> {
+// Whether the requests of the stream are those that the plain reading finds, read so many bytes at a time.
+fn reads_as_plain(alloc: Global, most: usize) -> Result<bool, AllocError> {
     let mut source = Slow { left: STREAM, most };
     let mut feed = Feed::new(alloc)?;
     let mut left = STREAM;
-    for _ in 0..2 {
-        let before = feed.given();
-        let Ok(Next::Request(_)) = next_request(alloc, &mut feed, &mut source) else {
+    for _ in 0..MANY {
+        let Some(plain) = plain_request(left) else {
             return Ok(false);
         };
-        let length = plain_length(left);
-        if feed.given().wrapping_sub(before) != length as u64 || left.len() < length {
+        let Some((head, rest)) = left.split_at_checked(plain.head) else {
+            return Ok(false);
+        };
+        let Some((body, rest)) = rest.split_at_checked(plain.body) else {
+            return Ok(false);
+        };
+        let before = feed.given();
+        let Ok(Next::Request(request)) = next_request(alloc, &mut feed, &mut source) else {
+            return Ok(false);
+        };
+        let taken = feed.given().wrapping_sub(before);
+        if taken != (head.len() as u64).wrapping_add(body.len() as u64)
+            || !is_plain(&request, &plain, body)
+        {
             return Ok(false);
         }
-        left = &left[length..];
+        left = rest;
     }
-    Ok(left == b"\r\n".as_slice())
+    Ok(true)
 }
 
 #[test]
-fn requests_end_as_a_plain_reading_says(rt: HostRuntime) -> Result<(), Fail> {
+fn requests_are_those_of_a_plain_reading_however_the_source_cuts_them(
+    rt: HostRuntime,
+) -> Result<(), Fail> {
     for most in 1..STREAM.len() {
-        assert!(rt; ends_as_plain(rt.alloc(), most)?, "at {most}");
+        assert!(rt; reads_as_plain(rt.alloc(), most)?, "at {most}");
     }
     Ok(())
 }

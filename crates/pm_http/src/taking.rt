@@ -1,5 +1,5 @@
 //! Bytes taken into the rest of a buffer.
-ghost use Rattle.std.specs.Prelude.{◌≡◌, ◌≤◌, ◌<◌, ◌+◌, ◌++◌, [], Err, length, vec_len, take, slice_range, IfOk, MatchResult};
+ghost use Rattle.std.specs.Prelude.{◌≡◌, ◌≤◌, ◌<◌, ◌+◌, ◌++◌, [], Ok, Err, length, vec_len, take, slice_range, IfOk, MatchResult};
 ghost use Rattle.pm_base.specs.Causes.{Rose};
 ghost use Rattle.pm_base.specs.Feed.{left_to, KnowsEnd, MOST_READ};
 
@@ -20,6 +20,8 @@ pub fn take_behind<S: Source>(
     ensures told { S.IsTold → MatchResult result (λ n. (left_to feed.old (S.left source.old) ≡ slice_range buffer.new.items at (at + n) ++ left_to feed.new (S.left source.new)) × (n ≡ 0 → at < vec_len buffer.old → left_to feed.old (S.left source.old) ≡ [])) (λ _. left_to feed.new (S.left source.new) ≡ left_to feed.old (S.left source.old)) }
     ensures given { S.IsTold → feed.new.given + length (left_to feed.new (S.left source.new)) ≡ feed.old.given + length (left_to feed.old (S.left source.old)) }
     ensures knows_end { S.IsTold → KnowsEnd feed.new (S.left source.new) }
+    ensures most { feed.new.given ≤ MOST_READ }
+    ensures end { result ≡ Ok 0 → at < vec_len buffer.old → feed.old.given < MOST_READ }
     ensures limit { result ≡ Err FeedError.Limit → feed.old.given ≡ MOST_READ }
     ensures failed { result ≡ Err FeedError.Failed → Rose (S.faults source.old) (S.faults source.new) }
     ensures later { S.faults source.old ≤ S.faults source.new }

@@ -9,5 +9,6 @@ bytes-preserved g c = record {
   taken = λ told. filled-more _ _ _ _ _ c.bytes.at c.in-Ok.count (c.bytes.invariant.taken told) (c.in-Ok.ensures.told told).0 c.in-Ok.ensures.front;
   given = λ told. c.in-Ok.ensures.given told ∙ c.bytes.invariant.given told;
   knows_end = λ told. c.in-Ok.ensures.knows_end told;
+  most = λ before. c.in-Ok.ensures.most;
   later = omega (arith, c.in-Ok.ensures.later, c.bytes.invariant.later);
 }

@@ -1,11 +1,12 @@
 use Rattle.std.proofs.Common.{◌≡◌, ◌+◌, ◌-◌, ◌<◌, ◌≤◌, length, vec_len}
 use Rattle.pm_base.specs.Feed.{left_to, KnowsEnd}
-use Rattle.pm_http.specs.Piece.{Gathers}
+use Rattle.pm_http.specs.Piece.{Gathers, IsBegun}
 use Rattle.pm_http.proofs.head_end.read_head.Given as goal
 
 abbrev pub invariant-pieces : goal.invariant-pieces
 invariant-pieces g l = record {
   few : vec_len l.head < 16384;
+  begun : g.S.Source.IsTold → IsBegun l.begun l.head.items;
   gathers : g.S.Source.IsTold → Gathers (left_to l.initial.feed (g.S.Source.left l.initial.source)) l.head.items (left_to l.feed (g.S.Source.left l.source));
   given : g.S.Source.IsTold → l.feed.given + length (left_to l.feed (g.S.Source.left l.source)) ≡ l.initial.feed.given + length (left_to l.initial.feed (g.S.Source.left l.initial.source));
   knows_end : g.S.Source.IsTold → KnowsEnd l.feed (g.S.Source.left l.source);

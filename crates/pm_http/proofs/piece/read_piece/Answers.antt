@@ -1,6 +1,7 @@
-use Rattle.std.proofs.Common.{List, ℕ, subst, IfOk}
+use Rattle.std.proofs.Common.{◌≡◌, inl, inr, List, ℕ, length, Err, ap, ◌∙◌, subst, arith, IfOk}
 use Rattle.pm_base.specs.Feed.{left_to}
-use Rattle.pm_http.specs.Piece.{Moves}
+use Rattle.pm_base.specs.declared.feed.FeedError.{FeedError}
+use Rattle.pm_http.specs.Piece.{Moves, BeginsLine}
 use Rattle.pm_http.proofs.PieceLemmas.{moved-line}
 use Rattle.pm_http.proofs.piece.read_piece.Goals as goal
 
@@ -9,7 +10,8 @@ returns-in-Ok-clause-moves g c =
     λ told.
     let answer = c.in-Ok-Whole.ensures.line told in
     let line = rw c.in-Ok-Whole.field-0-is at answer in
-    moved-line _ _ c.bytes-line.result.now _ _ c.in-Ok.piece c.given-before.result c.given.result
+    moved-line c.args.head.now.items (left_to c.args.feed.now (g.S.Source.left c.args.source.now)) c.bytes-line.result.now
+    (left_to c.line.new.self (g.S.Source.left c.line.new.source)) c.push_line.new.head.items c.in-Ok.piece c.given-before.result c.given.result
     (rw c.bytes-line.ensures line.0)
     (rw (c.given.ensures, c.given-before.ensures) (c.line.ensures.given told))
     c.in-Ok.ensures
@@ -20,4 +22,15 @@ returns-in-Ok-Long-clause-moves g c =
     let answer = c.in-Ok-Long.ensures.line told in
     let long = rw c.in-Ok-Long.field-0-is at answer in
     subst (λ (before : List ℕ). IfOk c.take_part.result (Moves c.args.head.now.items before c.take_part.new.head.items (left_to c.take_part.new.feed (g.S.Source.left c.take_part.new.source)))) long.3
-    (c.take_part.ensures.moves told (rw long.3 long.1))
+    (c.take_part.ensures.moves told (rw long.3 (inl long.1)))
+
+pub returns-in-Err-Limit-clause-moves : goal.returns-in-Err-Limit-clause-moves
+returns-in-Err-Limit-clause-moves g c =
+    λ told.
+    let left = left_to c.args.feed.now (g.S.Source.left c.args.source.now) in
+    let meets = c.line.ensures.limit told (c.in-Err-Limit.is ∙ ap (λ (e : FeedError). Err e) c.in-Err-Limit.field-0-is) in
+    let same = c.in-Err-Limit.ensures.stays told in
+    let given : c.line.new.self.given ≡ c.args.feed.now.given = omega (arith, c.line.ensures.given told, ap length same) in
+    let begins : BeginsLine c.line.new.self.given left = inr (rw given meets.unanswered.open_line) in
+    subst (λ (before : List ℕ). IfOk c.take_part-in-Err-Limit.result (Moves c.args.head.now.items before c.take_part-in-Err-Limit.new.head.items (left_to c.take_part-in-Err-Limit.new.feed (g.S.Source.left c.take_part-in-Err-Limit.new.source)))) same
+    (c.take_part-in-Err-Limit.ensures.moves told (rw same begins))
