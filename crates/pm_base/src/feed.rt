@@ -104,8 +104,8 @@ impl Feed {
         ensures most { self.new.given ≤ MOST_READ }
         ensures end { result ≡ Ok Line.End → self.old.given < MOST_READ }
 
-        // A line without its line feed is the last one, and the end is known behind it.
-        ensures last { (n : ℕ) → result ≡ Ok (Line.Whole n) → self.new.given ≡ self.old.given + n → self.new.ended ≡ true }
+        // A line without its line feed is the last one: the end is known behind it, before the limit.
+        ensures last { (n : ℕ) → result ≡ Ok (Line.Whole n) → self.new.given ≡ self.old.given + n → (self.new.ended ≡ true) × (self.new.given < MOST_READ) }
 
         // The limit comes exactly where it is met.
         ensures limit { S.IsTold → result ≡ Err FeedError.Limit → MeetsLimit self.old (S.left source.old) }
@@ -206,7 +206,7 @@ impl Feed {
         ensures within { self.old.given + length self.old.buffered ≤ MOST_READ }
         ensures takes { (n : ℕ) → result ≡ Some (Line.Whole n) → self.old.given < self.new.given }
         ensures end { result ≡ Some Line.End → self.old.given < MOST_READ }
-        ensures last { (n : ℕ) → result ≡ Some (Line.Whole n) → self.new.given ≡ self.old.given + n → self.new.ended ≡ true }
+        ensures last { (n : ℕ) → result ≡ Some (Line.Whole n) → self.new.given ≡ self.old.given + n → (self.new.ended ≡ true) × (self.new.given < MOST_READ) }
     {
         self.line = 0;
         self.stop = 0;

@@ -22,8 +22,8 @@ GivesNext old before Failed new after = (after ≡ before) × HasNoLine new.buff
 -- By how many bytes were given before and after a line of this length.
 abbrev pub EndsLine : ℕ → ℕ → ℕ → Next → Type 0
 EndsLine before after many Line = before + many < after
-EndsLine before after many Last = (after ≤ before + many) × (after < MOST_READ)
-EndsLine before after many Limit = (after ≤ before + many) × (MOST_READ ≤ after)
+EndsLine before after many Last = after ≤ before + many
+EndsLine before after many Limit = ⊥
 EndsLine before after many Long = ⊥
 EndsLine before after many End = ⊥
 EndsLine before after many Failed = ⊥

@@ -23,8 +23,6 @@ pub enum Next {
     Failed,
 }
 
-const MOST: u64 = 1_099_511_627_776;
-
 /// Takes the next line of an input.
 pub fn next_line<S: Source>(feed: &mut Feed, input: &mut S) -> Next
     requires { S.IsTold → KnowsEnd feed.old (S.left input.old) }
@@ -46,17 +44,14 @@ pub fn next_line<S: Source>(feed: &mut Feed, input: &mut S) -> Next
     }
 }
 
-// Whether a line feed was taken with the line. Of a last line the end is known, and no further read is needed, but where
-// as many bytes were taken as may be.
+// Whether a line feed was taken with the line.
 fn ended(before: u64, after: u64, length: u32) -> Next
     requires { before < after }
     ensures { EndsLine before after length result }
 {
     if after - before > u64::from(length) {
         Next::Line
-    } else if after < MOST {
-        Next::Last
     } else {
-        Next::Limit
+        Next::Last
     }
 }
