@@ -4,7 +4,7 @@ use Rattle.std.specs.Str.{bytes_eq}
 use Rattle.pm_model.specs.Slot.{Slot, slot_place}
 use Rattle.pm_model.specs.SlotNames.{slot_names, names_place, HasNoSpace, AreSpaceless}
 use Rattle.pm_model.proofs.SlotLemmas.{position-within}
-use Rattle.pm_model.proofs.SlotNamesLemmas.{slot_place-names}
+use Rattle.pm_model.proofs.SlotNamesLemmas.{slot_place-names, words-spaceless}
 use Rattle.pm_model.proofs.slot_table.SlotTable.find.Goals as goal
 
 within : (slots : List Slot) (names : List ℕ) (slot : ℕ) → names_place slots names ≡ Some slot → slot < length slots
@@ -26,8 +26,8 @@ returns-in-None-clause-within c = if_within c.args.self.now c.args.names.now c.s
 
 pub returns-in-Some-clause-pair : goal.returns-in-Some-clause-pair
 returns-in-Some-clause-pair c = λ object metric lacks joined.
-    together c.args.self.now c.args.names.now object metric (Some c.in-Some.slot) (sym c.in-Some.ensures.answer) c.guess.ensures.spaceless lacks joined
+    together c.args.self.now c.args.names.now object metric (Some c.in-Some.slot) (sym c.in-Some.ensures.answer) (words-spaceless c.args.self.now c.guess.ensures.words) lacks joined
 
 pub returns-in-None-clause-pair : goal.returns-in-None-clause-pair
 returns-in-None-clause-pair c = λ object metric lacks joined.
-    together c.args.self.now c.args.names.now object metric c.search.result c.search.ensures c.guess.ensures.spaceless lacks joined
+    together c.args.self.now c.args.names.now object metric c.search.result c.search.ensures (words-spaceless c.args.self.now c.guess.ensures.words) lacks joined
