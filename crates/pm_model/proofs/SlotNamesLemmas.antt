@@ -23,7 +23,7 @@ use Rattle.pm_meas.specs.Def.{IsDef}
 use Rattle.pm_meas.specs.Catalogue.{names_of}
 use Rattle.pm_model.specs.Inventory.{slots_of, slots_of_metric, key_of}
 use Rattle.pm_model.specs.Slot.{Slot, slot_place, slot_of, slots_of_def}
-use Rattle.pm_model.specs.SlotNames.{slot_names, names_place, HasNoSpace, IsWord, AreWords, AreDistinct, AreSpaceless}
+use Rattle.pm_model.specs.SlotNames.{slot_names, names_place, HasNoSpace, IsWord, AreWords, AreDistinct}
 
 differs : (b c : ℕ) → eqb b c ≡ false → b ≢ c
 differs b c fails same = let meets : eqb b c ≡ true = eq-eqb b c same in cc
@@ -199,10 +199,6 @@ slots-words tree (def ∷ defs) is defined =
     (λ k d lt. (object-word tree (get_or (objects_of tree def.class) k d) is (objects-within tree def.class k d lt), metric-word def.name (All-head IsDef def defs defined).name_is)))
     (slots-words tree defs is (All-tail IsDef def defs defined))
 
--- No name of a slot's object has a space.
-pub words-spaceless : (slots : List Slot) → AreWords slots → AreSpaceless slots
-words-spaceless slots words = λ k d lt. (words k d lt).0.spaceless
-
 position_from-same : {A : Type 0} (t u : A → Bool) (j : ℕ) (xs : List A) → All (λ x. t x ≡ u x) xs → position_from t j xs ≡ position_from u j xs
 position_from-same t u j [] same = refl
 position_from-same t u j (x ∷ xs) same =
@@ -215,8 +211,8 @@ both true false c into back = sym (false_from_ne_true c (λ is. let never = (bac
 both false b c into back = sym (false_from_ne_true c (λ is. let never = (back is).0 in cc))
 
 -- The names of an object and a metric are found apart as they are together.
-pub slot_place-names : (slots : List Slot) (object metric : List ℕ) → AreSpaceless slots → HasNoSpace object → slot_place slots object metric ≡ names_place slots (object ++ 32 ∷ metric)
-slot_place-names slots object metric spaceless lacks =
+pub slot_place-names : (slots : List Slot) (object metric : List ℕ) → AreWords slots → HasNoSpace object → slot_place slots object metric ≡ names_place slots (object ++ 32 ∷ metric)
+slot_place-names slots object metric words lacks =
     position_from-same (λ slot. bytes_eq slot.object object && bytes_eq slot.metric metric) (λ slot. bytes_eq (slot_names slot) (object ++ 32 ∷ metric)) 0 slots
     (λ k d lt.
     let s = get_or slots k d in
@@ -224,5 +220,5 @@ slot_place-names slots object metric spaceless lacks =
     (λ one two. (bytes_eq-Decides (slot_names s) (object ++ 32 ∷ metric)).1
     (ap (λ (l : List ℕ). l ++ 32 ∷ s.metric) ((bytes_eq-Decides s.object object).0 one) ∙ ap (λ (l : List ℕ). object ++ 32 ∷ l) ((bytes_eq-Decides s.metric metric).0 two)))
     (λ whole.
-    let apart = names-apart s.object object s.metric metric (spaceless k d lt) lacks ((bytes_eq-Decides (slot_names s) (object ++ 32 ∷ metric)).0 whole) in
+    let apart = names-apart s.object object s.metric metric (words k d lt).0.spaceless lacks ((bytes_eq-Decides (slot_names s) (object ++ 32 ∷ metric)).0 whole) in
     ((bytes_eq-Decides s.object object).1 apart.0, (bytes_eq-Decides s.metric metric).1 apart.1)))

@@ -28,7 +28,3 @@ pub record IsWord (text : List ℕ) : Type 0 where
 -- The names of each slot's object and metric are words.
 abbrev pub AreWords : List Slot → Type 0
 AreWords slots = All (λ slot. IsWord slot.object × IsWord slot.metric) slots
-
--- No object's name has a space.
-abbrev pub AreSpaceless : List Slot → Type 0
-AreSpaceless slots = All (λ slot. HasNoSpace slot.object) slots
