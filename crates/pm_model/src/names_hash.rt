@@ -27,14 +27,14 @@ pub(crate) fn hash_of(bytes: &[u8]) -> u64 {
         .wrapping_add(hash_of_piece(bytes, last, KEYS[4]))
 }
 
-// A hash of few or many bytes, eight at a time.
+// A hash of few or many bytes, sixteen at a time.
 #[cold]
 #[inline(never)]
 fn hash_of_any(bytes: &[u8]) -> u64 {
-    let (words, rest) = bytes.as_chunks::<8>();
+    let (pieces, rest) = bytes.as_chunks::<16>();
     let mut hash = bytes.len() as u64;
-    for word in words {
-        hash = folded(hash ^ u64::from_le_bytes(*word), KEYS[5]);
+    for piece in pieces {
+        hash = hash_of_piece(piece, 0, hash);
     }
     for byte in rest {
         hash = folded(hash ^ u64::from(*byte), KEYS[5]);
@@ -42,6 +42,7 @@ fn hash_of_any(bytes: &[u8]) -> u64 {
     hash
 }
 
+// A hash of sixteen bytes.
 #[inline(always)]
 fn hash_of_piece(bytes: &[u8], at: usize, key: u64) -> u64
     requires { at + 16 ≤ length bytes.now }
