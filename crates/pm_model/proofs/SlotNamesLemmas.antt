@@ -1,5 +1,5 @@
 -- No two slots of an inventory have the same names, and there are as many as it has slots.
-use Rattle.std.proofs.Common.{◌≡◌, ◌≢◌, ◌+◌, ◌<◌, ℕ, zero, suc, Bool, true, false, cond, List, [], ◌∷◌, ◌++◌, length, drop, map, get_or, ◌&&◌, Option, Some, None, inl, inr, refl, sym, ◌∙◌, ap, subst, arith, eqb, eq-eqb}
+use Rattle.std.proofs.Common.{◌≡◌, ◌≢◌, ◌+◌, ◌<◌, ◌≤◌, ℕ, zero, suc, Bool, true, false, cond, List, [], ◌∷◌, ◌++◌, length, drop, map, get_or, ◌&&◌, Option, Some, None, inl, inr, refl, sym, ◌∙◌, ap, subst, arith, eqb, eq-eqb}
 use Rattle.std.specs.List.{AllPairs, All, flat_map, filter, enumerate_from, position_from}
 use Rattle.std.specs.Str.{bytes_eq}
 use Rattle.std.specs.Char.{is_ascii_alphanumeric}
@@ -7,11 +7,11 @@ use Rattle.std.proofs.lemmas.Bool.{cases_lt, false_from_ne_true}
 use Rattle.std.proofs.lemmas.Bool.Decides.{nat_tests}
 use Rattle.std.proofs.lemmas.Slice.Eq.{bytes_eq-Decides}
 use Rattle.std.proofs.lemmas.List.{length-map, length-append, map-append, get_or-map, get_or_past, append_cancel_right}
-use Rattle.std.proofs.lemmas.List.Elements.{All-cons, All-head, All-tail, All-nil, All-append, All-weaker, All-map}
+use Rattle.std.proofs.lemmas.List.Elements.{All-cons, All-head, All-tail, All-nil, All-append, All-weaker, All-map, All-filter}
 use Rattle.std.proofs.lemmas.List.FromFn.{length-enumerate_from}
 use Rattle.std.proofs.lemmas.List.Kept.{AllPairs-cons, AllPairs-filter}
 use Rattle.pm_base.specs.declared.Class.{Class}
-use Rattle.pm_base.specs.Names.{is_name_char}
+use Rattle.pm_base.specs.Names.{is_name_char, IsMeasureName}
 use Rattle.pm_dn.specs.Name.{Part, IsPart, part_text, name_text}
 use Rattle.pm_dn.specs.Refusal.{name_refusal}
 use Rattle.pm_dn.specs.Containment.{has_path_to}
@@ -19,10 +19,11 @@ use Rattle.pm_dn.specs.Tree.{IsTree, objects_of}
 use Rattle.pm_dn.proofs.NameLemmas.{IsNameOf-name_of}
 use Rattle.pm_dn.proofs.TreeLemmas.{StandsAt-alone, IsTree-let_in}
 use Rattle.pm_meas.specs.declared.def.Def.{Def}
+use Rattle.pm_meas.specs.Def.{IsDef}
 use Rattle.pm_meas.specs.Catalogue.{names_of}
 use Rattle.pm_model.specs.Inventory.{slots_of, slots_of_metric, key_of}
 use Rattle.pm_model.specs.Slot.{Slot, slot_place, slot_of, slots_of_def}
-use Rattle.pm_model.specs.SlotNames.{slot_names, names_place, HasNoSpace, AreDistinct, AreSpaceless}
+use Rattle.pm_model.specs.SlotNames.{slot_names, names_place, HasNoSpace, IsWord, AreWords, AreDistinct}
 
 differs : (b c : ℕ) → eqb b c ≡ false → b ≢ c
 differs b c fails same = let meets : eqb b c ≡ true = eq-eqb b c same in cc
@@ -161,13 +162,42 @@ many-from tree n (def ∷ defs) =
 pub length-slots : (tree : List (List ℕ)) (defs : List Def) → length (flat_map (slots_of_def tree) defs) ≡ length (slots_of tree defs)
 length-slots tree defs = many-from tree 0 defs
 
--- No name of a slot's object has a space.
-pub slots-spaceless : (tree : List (List ℕ)) (defs : List Def) → IsTree tree → AreSpaceless (flat_map (slots_of_def tree) defs)
-slots-spaceless tree [] is = All-nil (λ s. HasNoSpace s.object)
-slots-spaceless tree (def ∷ defs) is =
-    All-append (λ s. HasNoSpace s.object) (slots_of_def tree def) (flat_map (slots_of_def tree) defs)
-    (All-map (λ s. HasNoSpace s.object) (slot_of tree def) (objects_of tree def.class) (λ k d lt. object-lacks-space tree (get_or (objects_of tree def.class) k d) is))
-    (slots-spaceless tree defs is)
+name_text-some : (name : List Part) → 1 ≤ length name → 0 < length (name_text name)
+name_text-some [] least = absurd (omega (arith, least))
+name_text-some (p ∷ []) least = omega (arith, length-append p.class (61 ∷ p.id))
+name_text-some (p ∷ q ∷ name) least = omega (arith, length-append (part_text p) (44 ∷ name_text (q ∷ name)))
+
+-- the name of an object is a word
+object-word : (tree : List (List ℕ)) (object : ℕ) → IsTree tree → object < length tree → IsWord (get_or tree object [])
+object-word tree object is lt =
+    let text : List ℕ = get_or tree object [] in
+    let name = IsNameOf-name_of text (IsTree-let_in tree object is lt).named in
+    record { some = omega (arith, ap length name.text, name_text-some _ name.least); spaceless = object-lacks-space tree object is }
+
+-- the name of a measurement is a word
+metric-word : (name : List ℕ) → IsMeasureName name → IsWord name
+metric-word name is = record {
+  some = omega (arith, is.least);
+  spaceless = All-weaker (λ b. is_name_char b ≡ true) (λ b. b ≢ 32) (λ b passes. differs b 32 (id-fails b passes)) name is.alphabet;
+}
+
+-- the objects of a class are in the tree
+objects-within : (tree : List (List ℕ)) (class : Class) → All (λ k. k < length tree) (objects_of tree class)
+objects-within tree class =
+    let P = λ (p : ℕ × List ℕ). p.0 < length tree in
+    let all : All P (enumerate_from 0 tree) = λ i d lt.
+    let first : i < length tree = omega (arith, lt, length-enumerate_from 0 tree) in omega (arith, enumerate-number 0 i tree d first, first) in
+    All-map (λ k. k < length tree) (λ (p : ℕ × List ℕ). p.0) (filter (λ (p : ℕ × List ℕ). has_path_to class p.1) (enumerate_from 0 tree))
+    (All-filter (λ (p : ℕ × List ℕ). has_path_to class p.1) P (enumerate_from 0 tree) all)
+
+-- The names of slots are words.
+pub slots-words : (tree : List (List ℕ)) (defs : List Def) → IsTree tree → All IsDef defs → AreWords (flat_map (slots_of_def tree) defs)
+slots-words tree [] is defined = All-nil (λ s. IsWord s.object × IsWord s.metric)
+slots-words tree (def ∷ defs) is defined =
+    All-append (λ s. IsWord s.object × IsWord s.metric) (slots_of_def tree def) (flat_map (slots_of_def tree) defs)
+    (All-map (λ s. IsWord s.object × IsWord s.metric) (slot_of tree def) (objects_of tree def.class)
+    (λ k d lt. (object-word tree (get_or (objects_of tree def.class) k d) is (objects-within tree def.class k d lt), metric-word def.name (All-head IsDef def defs defined).name_is)))
+    (slots-words tree defs is (All-tail IsDef def defs defined))
 
 position_from-same : {A : Type 0} (t u : A → Bool) (j : ℕ) (xs : List A) → All (λ x. t x ≡ u x) xs → position_from t j xs ≡ position_from u j xs
 position_from-same t u j [] same = refl
@@ -181,8 +211,8 @@ both true false c into back = sym (false_from_ne_true c (λ is. let never = (bac
 both false b c into back = sym (false_from_ne_true c (λ is. let never = (back is).0 in cc))
 
 -- The names of an object and a metric are found apart as they are together.
-pub slot_place-names : (slots : List Slot) (object metric : List ℕ) → AreSpaceless slots → HasNoSpace object → slot_place slots object metric ≡ names_place slots (object ++ 32 ∷ metric)
-slot_place-names slots object metric spaceless lacks =
+pub slot_place-names : (slots : List Slot) (object metric : List ℕ) → AreWords slots → HasNoSpace object → slot_place slots object metric ≡ names_place slots (object ++ 32 ∷ metric)
+slot_place-names slots object metric words lacks =
     position_from-same (λ slot. bytes_eq slot.object object && bytes_eq slot.metric metric) (λ slot. bytes_eq (slot_names slot) (object ++ 32 ∷ metric)) 0 slots
     (λ k d lt.
     let s = get_or slots k d in
@@ -190,5 +220,5 @@ slot_place-names slots object metric spaceless lacks =
     (λ one two. (bytes_eq-Decides (slot_names s) (object ++ 32 ∷ metric)).1
     (ap (λ (l : List ℕ). l ++ 32 ∷ s.metric) ((bytes_eq-Decides s.object object).0 one) ∙ ap (λ (l : List ℕ). object ++ 32 ∷ l) ((bytes_eq-Decides s.metric metric).0 two)))
     (λ whole.
-    let apart = names-apart s.object object s.metric metric (spaceless k d lt) lacks ((bytes_eq-Decides (slot_names s) (object ++ 32 ∷ metric)).0 whole) in
+    let apart = names-apart s.object object s.metric metric (words k d lt).0.spaceless lacks ((bytes_eq-Decides (slot_names s) (object ++ 32 ∷ metric)).0 whole) in
     ((bytes_eq-Decides s.object object).1 apart.0, (bytes_eq-Decides s.metric metric).1 apart.1)))

@@ -14,7 +14,7 @@ use Rattle.pm_dn.proofs.NumberLemmas.{numbers_where_yes, numbers_where_no}
 use Rattle.pm_meas.specs.declared.def.Def.{Def}
 use Rattle.pm_meas.specs.declared.kind.Reduce.{Reduce}
 use Rattle.pm_model.specs.Slot.{Slot, every_of, slot_of, slots_of_def}
-use Rattle.pm_model.specs.SlotNames.{slot_names, names_place, AreDistinct, AreSpaceless}
+use Rattle.pm_model.specs.SlotNames.{slot_names, names_place, AreDistinct, AreWords}
 use Rattle.pm_model.specs.SlotTableFields.{slot_of_entry, Lists, IsTable}
 use Rattle.pm_model.specs.declared.slot_entry.Entry.{Entry}
 
@@ -160,10 +160,10 @@ metric-listed tree defs def i entries is lists =
     rw (more, flat_map-append (slots_of_def tree) (take i defs) (def ∷ []), append-nil (slots_of_def tree def)) lists
 
 -- The entries of an inventory's slots are those of a table.
-pub table-of : (entries : List Entry) (slots : List Slot) → Lists entries slots → AreDistinct slots → AreSpaceless slots → length slots < 4097 → IsTable entries
-table-of entries slots lists distinct spaceless few = record {
+pub table-of : (entries : List Entry) (slots : List Slot) → Lists entries slots → AreDistinct slots → AreWords slots → length slots < 4097 → IsTable entries
+table-of entries slots lists distinct words few = record {
   few = omega (arith, few, ap length lists.slots_are, length-map entries slot_of_entry);
   named = lists.names_are ∙ ap (map slot_names) (sym lists.slots_are);
   distinct = subst AreDistinct (sym lists.slots_are) distinct;
-  spaceless = subst AreSpaceless (sym lists.slots_are) spaceless;
+  words = subst AreWords (sym lists.slots_are) words;
 }

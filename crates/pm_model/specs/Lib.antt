@@ -1,6 +1,7 @@
 pub mod Inventory
 pub mod Slot
 pub mod SlotNames
+pub mod SamePieces
 pub mod SlotTableFields
 pub mod WholeLines
 pub mod EventLine

@@ -1,5 +1,5 @@
 -- The names of a slot as one text, which lines of events and of a tally have in their middle (this project's own).
-use Rattle.std.specs.Prelude.{◌≢◌, ◌++◌, ℕ, List, ◌∷◌, map, Option, All, AllPairs}
+use Rattle.std.specs.Prelude.{◌≢◌, ◌<◌, ◌++◌, ℕ, List, ◌∷◌, length, map, Option, All, AllPairs}
 use Rattle.std.specs.List.{position_from}
 use Rattle.std.specs.Str.{bytes_eq}
 use Rattle.pm_model.specs.Slot.{Slot}
@@ -20,6 +20,11 @@ AreDistinct slots = AllPairs (λ a b. a ≢ b) (map slot_names slots)
 abbrev pub HasNoSpace : List ℕ → Type 0
 HasNoSpace text = All (λ b. b ≢ 32) text
 
--- No object's name has a space.
-abbrev pub AreSpaceless : List Slot → Type 0
-AreSpaceless slots = All (λ slot. HasNoSpace slot.object) slots
+-- A word: a byte at least, and no space.
+pub record IsWord (text : List ℕ) : Type 0 where
+  pub some : 0 < length text
+  pub spaceless : HasNoSpace text
+
+-- The names of each slot's object and metric are words.
+abbrev pub AreWords : List Slot → Type 0
+AreWords slots = All (λ slot. IsWord slot.object × IsWord slot.metric) slots

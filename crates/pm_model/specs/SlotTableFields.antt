@@ -1,7 +1,7 @@
 -- What the fields of a table of slots mean.
 use Rattle.std.specs.Prelude.{◌≡◌, ◌+◌, ◌≤◌, List, length, map, take, drop}
 use Rattle.pm_model.specs.Slot.{Slot}
-use Rattle.pm_model.specs.SlotNames.{slot_names, AreDistinct, AreSpaceless}
+use Rattle.pm_model.specs.SlotNames.{slot_names, AreDistinct, AreWords}
 use Rattle.pm_model.specs.declared.slot_entry.Entry.{Entry}
 
 -- The slot of an entry.
@@ -18,4 +18,4 @@ pub record IsTable (entries : List Entry) : Type 0 where
   pub few : length entries ≤ 4096
   pub named : map (λ (e : Entry). e.names) entries ≡ map slot_names (map slot_of_entry entries)
   pub distinct : AreDistinct (map slot_of_entry entries)
-  pub spaceless : AreSpaceless (map slot_of_entry entries)
+  pub words : AreWords (map slot_of_entry entries)

@@ -2,12 +2,14 @@
 ghost use Rattle.std.specs.Prelude.{◌≡◌, ◌<◌, ◌≤◌, ◌++◌, ◌∷◌, ◌↔◌, ℕ, List, [], Some, length, IfOk, IfSome, OnOk, IsTrue, slice_get};
 ghost use Rattle.pm_meas.specs.Def.{IsKind};
 ghost use Rattle.pm_model.specs.Slot.{Slot, slot_place, every_of, slots_of_def, event_slots};
-ghost use Rattle.pm_model.specs.SlotNames.{slot_names, names_place, HasNoSpace, AreDistinct, AreSpaceless};
+ghost use Rattle.pm_model.specs.SlotNames.{slot_names, names_place, HasNoSpace, AreDistinct, AreWords};
 ghost use Rattle.pm_model.specs.SlotTableFields.{slot_of_entry, Lists, IsTable};
 
 use crate::inventory::{Inventory, has_class};
+use crate::names_hash::hash_of;
+use crate::same_names::is_same;
 use crate::slot_entry::Entry;
-use crate::slot_places::{PLACES, SlotPlaces, hash_of};
+use crate::slot_places::{PLACES, SlotPlaces};
 use pm_base::Blob;
 use pm_dn::Tree;
 use pm_meas::{Def, Kind, Reduce};
@@ -65,6 +67,7 @@ impl SlotTable {
         ensures place { result ≡ names_place self.now names.now }
         ensures pair { (object metric : List ℕ) → HasNoSpace object → names.now ≡ object ++ 32 ∷ metric → result ≡ slot_place self.now object metric }
         ensures within { IfSome result (λ slot. slot < length self.now) }
+        ensures words { AreWords self.now }
     {
         match self.guess(names) {
             Some(slot) => Some(slot),
@@ -76,7 +79,7 @@ impl SlotTable {
     #[inline(always)]
     fn guess(&self, names: &[u8]) -> Option<u16>
         ensures answer { IfSome result (λ slot. names_place self.now names.now ≡ Some slot) }
-        ensures spaceless { AreSpaceless self.now }
+        ensures words { AreWords self.now }
     {
         let hash = hash_of(names);
         for step in 0..PLACES as u64 {
@@ -138,13 +141,6 @@ impl SlotTable {
     }
 }
 
-#[inline(always)]
-fn is_same(a: &[u8], b: &[u8]) -> bool
-    ensures { IsTrue result ↔ (a.now ≡ b.now) }
-{
-    a == b
-}
-
 fn places_of(alloc: Global, entries: &[Entry]) -> Result<SlotPlaces, AllocError>
     requires { length entries.now ≤ 4096 }
 {
@@ -164,7 +160,7 @@ fn list_slots(
     requires { entries.old.items ≡ [] }
     ensures listed { OnOk result (Lists entries.new.items (event_slots inventory.now)) }
     ensures distinct { OnOk result (AreDistinct (event_slots inventory.now)) }
-    ensures spaceless { OnOk result (AreSpaceless (event_slots inventory.now)) }
+    ensures words { OnOk result (AreWords (event_slots inventory.now)) }
 {
     let (tree, catalogue) = (inventory.tree(), inventory.catalogue());
     let objects = tree.len();

@@ -9,4 +9,5 @@ pub mod EndLemmas
 pub mod WordsLemmas
 pub mod OutcomeLemmas
 pub mod PlainLemmas
+pub mod LastWordLemmas
 pub mod ReaderLemmas

@@ -14,12 +14,10 @@ use Rattle.pm_base.specs.Number.{is_number, is_moment, number_of}
 use Rattle.pm_model.specs.Slot.{Slot, slot_place}
 use Rattle.pm_model.specs.EventLine.{LineEvent, words_of, event_line, event_of_words}
 use Rattle.pm_model.specs.Event.{event_of, event_in_slot, read_event}
-use Rattle.pm_model.specs.SlotNames.{slot_names, names_place, HasNoSpace}
-use Rattle.pm_model.proofs.EventLineLemmas.{word_of-spaceless}
+use Rattle.pm_model.specs.SlotNames.{slot_names, names_place, HasNoSpace, IsWord, AreWords}
 use Rattle.std.proofs.lemmas.List.Folds.{list_all_more}
 use Rattle.std.specs.List.{slice_get}
 use Rattle.pm_top.proofs.CountingLemmas.{slice_get-at}
-use Rattle.pm_top.specs.TwoWords.{are_two, is_two_words, has_two_words, have_two_words}
 
 both : (a b : Bool) → a ≡ true → b ≡ true → (a && b) ≡ true
 both a b first second = ap (λ (x : Bool). x && b) first ∙ second
@@ -31,11 +29,6 @@ first-of false b is = is
 second-of : (a b : Bool) → (a && b) ≡ true → b ≡ true
 second-of true b is = is
 second-of false b is = absurd (cc (is))
-
--- what is not empty has an element
-pub some-of : (n : ℕ) → false ≡ eqb n 0 → 0 < n
-some-of zero is = absurd (cc (is))
-some-of (suc n) is = omega arith
 
 digit-fails : (b : ℕ) → is_ascii_digit b ≡ true → eqb b 32 ≡ false
 digit-fails b is = grind (arith, nat_tests)
@@ -116,68 +109,41 @@ in-front text line same spaced =
     sym (take-append-drop 11 line) ∙ ap (λ (l : List ℕ). l ++ drop 11 line) (same ∙ spaced) ∙ append_assoc (take 10 text) (32 ∷ []) (drop 11 line)
     ∙ ap (λ (l : List ℕ). take 10 text ++ 32 ∷ l) (sym behind)
 
--- Two words, of a byte at least each.
+-- Two words with a space between.
 record IsTwo (names : List ℕ) : Type 0 where
   object : List ℕ
   metric : List ℕ
-  words : words_of names ≡ object ∷ metric ∷ []
-  object_some : 0 < length object
-  metric_some : 0 < length metric
-
-two-of : (names : List ℕ) (words : List (List ℕ)) → words_of names ≡ words → are_two words ≡ true → IsTwo names
-two-of names [] words is = absurd (cc (is))
-two-of names (object ∷ []) words is = absurd (cc (is))
-two-of names (object ∷ metric ∷ []) words is = record {
-  object = object;
-  metric = metric;
-  words = words;
-  object_some = omega (arith, leb-true 1 (length object) (first-of (nat_le 1 (length object)) (nat_le 1 (length metric)) is));
-  metric_some = omega (arith, leb-true 1 (length metric) (second-of (nat_le 1 (length object)) (nat_le 1 (length metric)) is));
-}
-two-of names (object ∷ metric ∷ more ∷ rest) words is = absurd (cc (is))
+  object_is : IsWord object
+  metric_is : IsWord metric
+  joined : names ≡ object ++ 32 ∷ metric
 
 -- names that a slot has are two words
-found-two : (slots : List Slot) (n slot : ℕ) (names : List ℕ) → have_two_words slots ≡ true → position_from (λ (s : Slot). bytes_eq (slot_names s) names) n slots ≡ Some slot → is_two_words names ≡ true
-found-two [] n slot names have found = absurd (cc (found))
-found-two (s ∷ slots) n slot names have found =
-    found-by (bytes_eq (slot_names s) names) refl found (λ later. found-two slots (n + 1) slot names (second-of (has_two_words s) (have_two_words slots) have) later) where
-      found-by : (b : Bool) → bytes_eq (slot_names s) names ≡ b → cond b (Some n) (position_from (λ (s : Slot). bytes_eq (slot_names s) names) (n + 1) slots) ≡ Some slot → (position_from (λ (s : Slot). bytes_eq (slot_names s) names) (n + 1) slots ≡ Some slot → is_two_words names ≡ true) → is_two_words names ≡ true
-      found-by true same here behind = subst (λ l. is_two_words l ≡ true) ((bytes_eq-Decides (slot_names s) names).0 same) (first-of (has_two_words s) (have_two_words slots) have)
+found-two : (slots : List Slot) (n slot : ℕ) (names : List ℕ) → AreWords slots → position_from (λ (s : Slot). bytes_eq (slot_names s) names) n slots ≡ Some slot → IsTwo names
+found-two [] n slot names words found = absurd (cc (found))
+found-two (s ∷ slots) n slot names words found =
+    found-by (bytes_eq (slot_names s) names) refl found (λ later. found-two slots (n + 1) slot names (All-tail (λ t. IsWord t.object × IsWord t.metric) s slots words) later) where
+      found-by : (b : Bool) → bytes_eq (slot_names s) names ≡ b → cond b (Some n) (position_from (λ (s : Slot). bytes_eq (slot_names s) names) (n + 1) slots) ≡ Some slot → (position_from (λ (s : Slot). bytes_eq (slot_names s) names) (n + 1) slots ≡ Some slot → IsTwo names) → IsTwo names
+      found-by true same here behind =
+          let own : IsWord s.object × IsWord s.metric = All-head (λ t. IsWord t.object × IsWord t.metric) s slots words in
+          record { object = s.object; metric = s.metric; object_is = own.0; metric_is = own.1; joined = sym ((bytes_eq-Decides (slot_names s) names).0 same) }
       found-by false same here behind = behind here
 
 -- The event of a line that begins with the word of a moment, and has the names of a slot before its last word.
-pub names-read : (slots : List Slot) (word words : List ℕ) (at moment value slot : ℕ) → have_two_words slots ≡ true → is_moment word ≡ true → moment ≡ number_of word → length words ≤ 2000 → at < length words → get_or words at 0 ≡ 32 → is_number 10 (take (length words - (at + 1)) (drop (at + 1) words)) ≡ true → value ≡ number_of (take (length words - (at + 1)) (drop (at + 1) words)) → value ≤ 1048575 → Some slot ≡ names_place slots (take at words) → ((object metric : List ℕ) → HasNoSpace object → take at words ≡ object ++ 32 ∷ metric → Some slot ≡ slot_place slots object metric) → read_event slots (word ++ 32 ∷ words) ≡ Ok (record { moment = moment; slot = slot; value = value })
-names-read slots word words at moment value slot have is moment-is short lt space number value-is small found pair =
+pub names-read : (slots : List Slot) (word words : List ℕ) (at moment value slot : ℕ) → AreWords slots → is_moment word ≡ true → moment ≡ number_of word → length words ≤ 2000 → at < length words → get_or words at 0 ≡ 32 → is_number 10 (drop (at + 1) words) ≡ true → value ≡ number_of (drop (at + 1) words) → value ≤ 1048575 → Some slot ≡ names_place slots (take at words) → ((object metric : List ℕ) → HasNoSpace object → take at words ≡ object ++ 32 ∷ metric → Some slot ≡ slot_place slots object metric) → read_event slots (word ++ 32 ∷ words) ≡ Ok (record { moment = moment; slot = slot; value = value })
+names-read slots word words at moment value slot words-are is moment-is short lt space number value-is small found pair =
     let names : List ℕ = take at words in
-    let digits : List ℕ = take (length words - (at + 1)) (drop (at + 1) words) in
-    let behind : digits ≡ drop (at + 1) words = take_all (length words - (at + 1)) (drop (at + 1) words) (omega (arith, length-drop (at + 1) words)) in
-    let two : IsTwo names = two-of names (words_of names) refl (found-two slots 0 slot names have (sym found)) in
+    let digits : List ℕ = drop (at + 1) words in
+    let two : IsTwo names = found-two slots 0 slot names words-are (sym found) in
     let object : List ℕ = two.object in
     let metric : List ℕ = two.metric in
-    let joined : names ≡ object ++ 32 ∷ metric = sym (join_with_byte-slice_split 32 names) ∙ ap (join_with_byte 32) two.words in
-    let object-lacks : HasNoSpace object = word_of-spaceless names object (metric ∷ []) two.words in
-    let alone : words_of metric ≡ metric ∷ [] = ap (drop 1) (sym (word-first object metric object-lacks) ∙ ap words_of (sym joined) ∙ two.words) in
-    let metric-lacks : HasNoSpace metric = word_of-spaceless metric metric [] alone in
+    let object-lacks : HasNoSpace object = two.object_is.spaceless in
     let digits-lack : HasNoSpace digits = digits-lack-space digits (second-of (nat_le 1 (length digits) && nat_le (length digits) 10) (list_all is_ascii_digit digits) number) in
     let parts : words ≡ object ++ 32 ∷ (metric ++ 32 ∷ digits) =
-    sym (take-append-drop at words) ∙ ap (λ (l : List ℕ). names ++ l) (drop_more words at 0 lt ∙ ap (λ (b : ℕ). b ∷ drop (at + 1) words) space ∙ ap (λ (l : List ℕ). 32 ∷ l) (sym behind))
-    ∙ ap (λ (l : List ℕ). l ++ 32 ∷ digits) joined ∙ append_assoc object (32 ∷ metric) (32 ∷ digits) in
+    sym (take-append-drop at words) ∙ ap (λ (l : List ℕ). names ++ l) (drop_more words at 0 lt ∙ ap (λ (b : ℕ). b ∷ digits) space)
+    ∙ ap (λ (l : List ℕ). l ++ 32 ∷ digits) two.joined ∙ append_assoc object (32 ∷ metric) (32 ∷ digits) in
     usual-reads slots word words object (metric ++ 32 ∷ digits) metric digits moment value slot is moment-is short
     (ap words_of parts ∙ word-first object (metric ++ 32 ∷ digits) object-lacks)
-    (word-first metric digits metric-lacks)
+    (word-first metric digits two.metric_is.spaceless)
     (word-alone digits digits-lack)
-    two.object_some two.metric_some number value-is small
-    (sym (pair object metric object-lacks joined))
-
--- Two words that were cut at their space.
-pub cut-two : (names object metric : List ℕ) → words_of names ≡ object ∷ words_of metric → words_of metric ≡ metric ∷ [] → false ≡ eqb (length object) 0 → false ≡ eqb (length metric) 0 → is_two_words names ≡ true
-cut-two names object metric first second object-some metric-some =
-    ap are_two (first ∙ ap (λ (l : List (List ℕ)). object ∷ l) second)
-    ∙ both (nat_le 1 (length object)) (nat_le 1 (length metric)) (le-leb 1 (length object) (some-of (length object) object-some)) (le-leb 1 (length metric) (some-of (length metric) metric-some))
-
--- One more slot whose names are two words.
-pub plain-next : (slots : List Slot) (i : ℕ) (names : List ℕ) (d : Slot) → i < length slots → have_two_words (take i slots) ≡ true → ((s : Slot) → slice_get slots i ≡ Some s → names ≡ slot_names s) → is_two_words names ≡ true → have_two_words (take (i + 1) slots) ≡ true
-plain-next slots i names d lt before named two =
-    list_all_more has_two_words slots i d lt
-    ∙ both (have_two_words (take i slots)) (has_two_words (get_or slots i d)) before
-    (ap is_two_words (sym (named (get_or slots i d) (slice_get-at slots i d lt))) ∙ two)
+    two.object_is.some two.metric_is.some number value-is small
+    (sym (pair object metric object-lacks two.joined))

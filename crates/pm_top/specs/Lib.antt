@@ -8,4 +8,3 @@ pub mod Outcome
 pub mod Words
 pub mod StatusText
 pub mod Plain
-pub mod TwoWords

@@ -3,6 +3,7 @@
 
 mod counting;
 mod event;
+mod last_word;
 mod lines;
 mod next;
 mod plain;

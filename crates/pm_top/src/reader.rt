@@ -1,12 +1,11 @@
 //! The reading of lines of events, most of which have the moment of the line before them, byte for byte.
-ghost use Rattle.std.specs.Prelude.{◌≡◌, ◌≤◌, ◌<◌, ◌++◌, ◌∷◌, [], ℕ, List, length, take, true, Ok, IfOk, IfSome, IsTrue, slice_index};
+ghost use Rattle.std.specs.Prelude.{◌≡◌, ◌≤◌, ◌<◌, ◌++◌, ◌∷◌, [], ℕ, List, length, take, true, Ok, IfOk, IfSome, IsTrue};
 ghost use Rattle.pm_base.specs.Number.{is_moment, number_of};
-ghost use Rattle.pm_model.specs.EventLine.{words_of};
 ghost use Rattle.pm_model.specs.Event.{read_event};
-ghost use Rattle.pm_top.specs.TwoWords.{is_two_words, have_two_words};
 
 use crate::event::{GREATEST_VALUE, read};
-use pm_base::{Code, cut_at, read_moment, read_number};
+use crate::last_word::last_number;
+use pm_base::{Code, read_moment};
 use pm_model::{Event, SlotTable};
 
 // The digits of a moment of today, and the space behind them.
@@ -17,11 +16,8 @@ const WORD: usize = 11;
 #[derive(Debug, Drop)]
 pub struct Reader<'a> {
     slots: &'a SlotTable,
-    // Whether the names of each slot are two words, which they are.
-    plain: bool,
     text: [u8; 11],
     moment: u64,
-    ghost plain_is: { IsTrue plain → have_two_words slots.now ≡ true },
     ghost spaced: { text ≡ take 10 text ++ 32 ∷ [] },
     ghost word: { is_moment (take 10 text) ≡ true },
     ghost value: { moment ≡ number_of (take 10 text) },
@@ -34,7 +30,6 @@ impl<'a> Reader<'a> {
     {
         Reader {
             slots,
-            plain: are_plain(slots),
             text: *b"0000000000 ",
             moment: 0,
         }
@@ -60,7 +55,7 @@ impl<'a> Reader<'a> {
         ensures event { IfSome result (λ event. read_event self.now.slots.now line.now ≡ Ok event) }
         ensures sound { IfSome result (λ event. (event.value ≤ 1048575) × (event.slot < length self.now.slots.now)) }
     {
-        if !self.plain || line.len() < WORD || !is_same(&line[..WORD], self.text.as_slice()) {
+        if !begins(line, &self.text) {
             return None;
         }
         let event = event_behind(self.slots, self.moment, &line[WORD..])?;
@@ -91,7 +86,6 @@ impl<'a> Reader<'a> {
         if let Some(moment) = read_moment(&text[..10]) {
             *self = Reader {
                 slots: self.slots,
-                plain: self.plain,
                 text: *text,
                 moment,
             };
@@ -99,76 +93,53 @@ impl<'a> Reader<'a> {
     }
 }
 
+// Whether the line begins with the text. The first eight bytes are compared as one number.
 #[inline(always)]
-fn is_same(a: &[u8], b: &[u8]) -> bool
-    ensures { IsTrue result → a.now ≡ b.now }
+fn begins(line: &[u8], text: &[u8; 11]) -> bool
+    ensures long { IsTrue result → 11 ≤ length line.now }
+    ensures same { IsTrue result → take 11 line.now ≡ text.now }
 {
-    a == b
-}
-
-// Whether the names of each slot are two words.
-fn are_plain(slots: &SlotTable) -> bool
-    ensures { IsTrue result → have_two_words slots.now ≡ true }
-{
-    for slot in 0..slots.len() {
-        if !is_plain(slots.names(slot)) {
+    if line.len() < WORD {
+        return false;
+    }
+    let (Some(front), Some(word)) = (line.first_chunk::<8>(), text.first_chunk::<8>()) else {
+        return false;
+    };
+    if !is_same(front, word) {
+        return false;
+    }
+    for i in 8..WORD {
+        if line[i] != text[i] {
             return false;
         }
     }
     true
 }
 
-fn is_plain(names: &[u8]) -> bool
-    ensures { IsTrue result → is_two_words names.now ≡ true }
+#[inline(always)]
+fn is_same(a: &[u8; 8], b: &[u8; 8]) -> bool
+    ensures { IsTrue result → a.now ≡ b.now }
 {
-    match cut_at(b' ', names) {
-        None => false,
-        Some((object, metric)) => !object.is_empty() && !metric.is_empty() && is_one_word(metric),
-    }
-}
-
-fn is_one_word(text: &[u8]) -> bool
-    ensures { IsTrue result → words_of text.now ≡ text.now ∷ [] }
-{
-    match cut_at(b' ', text) {
-        None => true,
-        Some(_) => false,
-    }
+    u64::from_le_bytes(*a) == u64::from_le_bytes(*b)
 }
 
 // The event of this moment with these words behind it. None says nothing.
 #[inline(always)]
 fn event_behind(slots: &SlotTable, moment: u64, words: &[u8]) -> Option<Event>
-    requires { have_two_words slots.now ≡ true }
     ensures event { IfSome result (λ event. (word : List ℕ) → is_moment word ≡ true → moment ≡ number_of word → read_event slots.now (word ++ 32 ∷ words.now) ≡ Ok event) }
     ensures sound { IfSome result (λ event. (event.value ≤ 1048575) × (event.slot < length slots.now)) }
 {
     if words.len() > 2_000 {
         return None;
     }
-    let at = last_space(words)?;
-    let value = read_number(&words[at + 1..], 10)?;
-    if value > GREATEST_VALUE {
+    let last = last_number(words)?;
+    if last.value > GREATEST_VALUE {
         return None;
     }
-    let slot = slots.find(&words[..at])?;
+    let slot = slots.find(&words[..last.space])?;
     Some(Event {
         moment,
         slot,
-        value: value as u32,
+        value: last.value as u32,
     })
-}
-
-// The place of the last space, if it stands before the last word of 10 bytes at the most.
-#[inline(always)]
-fn last_space(words: &[u8]) -> Option<usize>
-    ensures { IfSome result (λ at. (at < length words.now) × (slice_index words.now at ≡ 32)) }
-{
-    for behind in 0..11 {
-        let at = words.len().checked_sub(behind + 1)?;
-        if words[at] == b' ' {
-            return Some(at);
-        }
-    }
-    None
 }

@@ -5,7 +5,7 @@ use Rattle.pm_meas.specs.declared.def.Def.{Def}
 use Rattle.pm_meas.specs.Catalogue.{IsCatalogue}
 use Rattle.pm_model.specs.Slot.{slots_of_def}
 use Rattle.pm_model.proofs.SlotTableLemmas.{metric-listed}
-use Rattle.pm_model.proofs.SlotNamesLemmas.{slots-apart, slots-spaceless}
+use Rattle.pm_model.proofs.SlotNamesLemmas.{slots-apart, slots-words}
 use Rattle.pm_model.proofs.slot_table.list_slots.Goals as goal
 
 pub loop-metric-preserved : goal.loop-metric-preserved
@@ -23,6 +23,8 @@ returns-clause-distinct c =
     let defs = c.args.inventory.now.measures in
     slots-apart tree defs (subst IsTree c.tree-tree.ensures c.len-objects.ensures.let_in) (subst IsCatalogue c.catalogue-catalogue.ensures c.len-metric-end.ensures.catalogue).distinct
 
-pub returns-clause-spaceless : goal.returns-clause-spaceless
-returns-clause-spaceless c =
-    slots-spaceless c.args.inventory.now.objects c.args.inventory.now.measures (subst IsTree c.tree-tree.ensures c.len-objects.ensures.let_in)
+pub returns-clause-words : goal.returns-clause-words
+returns-clause-words c =
+    let tree = c.args.inventory.now.objects in
+    let defs = c.args.inventory.now.measures in
+    slots-words tree defs (subst IsTree c.tree-tree.ensures c.len-objects.ensures.let_in) (subst IsCatalogue c.catalogue-catalogue.ensures c.len-metric-end.ensures.catalogue).permitted

@@ -9,11 +9,11 @@ pub places_of-requires : goal.places_of-requires
 places_of-requires c =
     let inventory = c.args.inventory.now in
     let few : length (event_slots inventory) < 4097 = omega (arith, length-slots inventory.objects inventory.measures, c.slots.ensures.some_slots.1) in
-    let table : IsTable c.list_slots.new.entries.items = table-of c.list_slots.new.entries.items (event_slots inventory) c.in_ok-list_slots.ensures.listed c.in_ok-list_slots.ensures.distinct c.in_ok-list_slots.ensures.spaceless few in
+    let table : IsTable c.list_slots.new.entries.items = table-of c.list_slots.new.entries.items (event_slots inventory) c.in_ok-list_slots.ensures.listed c.in_ok-list_slots.ensures.distinct c.in_ok-list_slots.ensures.words few in
     omega (arith, table.few, ap length c.deref.ensures.value)
 
 pub invariant_of-result : goal.invariant_of-result
 invariant_of-result c =
     let inventory = c.args.inventory.now in
     let few : length (event_slots inventory) < 4097 = omega (arith, length-slots inventory.objects inventory.measures, c.slots.ensures.some_slots.1) in
-    table-of c.list_slots.new.entries.items (event_slots inventory) c.in_ok-list_slots.ensures.listed c.in_ok-list_slots.ensures.distinct c.in_ok-list_slots.ensures.spaceless few
+    table-of c.list_slots.new.entries.items (event_slots inventory) c.in_ok-list_slots.ensures.listed c.in_ok-list_slots.ensures.distinct c.in_ok-list_slots.ensures.words few

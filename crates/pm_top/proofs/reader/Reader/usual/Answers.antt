@@ -6,6 +6,6 @@ use Rattle.pm_top.proofs.reader.Reader.usual.Goals as goal
 pub returns-clause-event : goal.returns-clause-event
 returns-clause-event c =
     let text = c.args.self.now.text in
-    let same = c.if-not-is_same.ensures refl ∙ c.as_slice.ensures in
+    let same = c.if-not-begins.ensures.same refl in
     ap (read_event c.args.self.now.slots.now) (in-front text c.args.line.now same c.args.self.now.spaced)
     ∙ c.in_ok-event.ensures.event (take 10 text) c.args.self.now.word c.args.self.now.value
