@@ -1,6 +1,7 @@
 -- Pieces by the first place of the byte that parts them.
 use Rattle.std.proofs.Common.{◌≡◌, ◌+◌, ◌<◌, ◌≤◌, ℕ, suc, Bool, true, false, cond, List, [], ◌∷◌, ◌++◌, length, take, drop, get_or, inl, inr, refl, sym, ◌∙◌, ap, arith, add-one, drop-cons, take-append-drop}
-use Rattle.std.proofs.lemmas.List.Splits.{slice_split_none, slice_split_at, slice_split-cons_no}
+use Rattle.std.proofs.lemmas.List.Splits.{slice_split_none, slice_split_at, slice_split-cons_no, length-slice_split}
+use Rattle.std.proofs.lemmas.List.Sums.{count_by-le-length}
 use Rattle.std.proofs.lemmas.List.{length-take, get_or-take, get_or_default, take_rest}
 use Rattle.std.proofs.lemmas.Bool.Decides.{eqb_tells}
 use Rattle.std.proofs.Math.Dec.{eqb}
@@ -44,3 +45,9 @@ some_piece byte (b ∷ bytes) =
       | inl same ↦ ([], pieces_of byte bytes, ap (λ (v : Bool). cond v ([] ∷ pieces_of byte bytes) (onto_first b (pieces_of byte bytes))) same.0)
       | inr differs ↦ (b ∷ parts.0, parts.1, slice_split-cons_no (λ x. eqb x byte) b bytes differs.0 ∙ ap (λ (l : List (List ℕ)). onto_first b l) parts.2)
     ]
+
+-- how many pieces there are
+pub length-pieces_of : (byte : ℕ) (bytes : List ℕ) → (1 ≤ length (pieces_of byte bytes)) × (length (pieces_of byte bytes) ≤ length bytes + 1)
+length-pieces_of byte bytes =
+    let p = λ (b : ℕ). eqb b byte in
+    (omega (arith, length-slice_split p bytes), omega (arith, length-slice_split p bytes, count_by-le-length p bytes))

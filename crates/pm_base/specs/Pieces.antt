@@ -6,3 +6,7 @@ use Rattle.std.specs.List.{slice_split}
 -- at an end.
 abbrev pub pieces_of : ℕ → List ℕ → List (List ℕ)
 pieces_of byte bytes = slice_split (λ b. b == byte) bytes
+
+-- The words of a line: each single space parts two, so that a further one makes an empty word.
+abbrev pub words_of : List ℕ → List (List ℕ)
+words_of line = pieces_of 32 line

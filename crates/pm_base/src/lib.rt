@@ -23,7 +23,7 @@ pub use blob::Blob;
 pub use class::Class;
 pub use code::Code;
 pub use feed::{Feed, FeedError};
-pub use line::Line;
+pub use line::{Line, MOST_LINE};
 pub use moment::{LAST_MOMENT, TICK_SECONDS, tick};
 pub use names::{is_dn_class, is_dn_id, is_job_id, is_measure_name};
 pub use number::{read_moment, read_number};

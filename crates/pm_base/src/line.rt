@@ -30,8 +30,8 @@ pub enum Found {
     Unknown,
 }
 
-// The longest line that a feed gives.
-const LONGEST: usize = 2_048;
+/// The most bytes of a line, its line feed left out. The limit is this project's own.
+pub const MOST_LINE: usize = 2_048;
 
 /// The next line of these bytes, behind which none follow where the end is known.
 #[inline(always)]
@@ -39,7 +39,7 @@ pub fn find_line(held: &[u8], ended: bool) -> Found
     ensures { FindsLine held.now ended result }
 {
     match memchr(b'\n', held) {
-        Some(at) if at <= LONGEST => Found::Line {
+        Some(at) if at <= MOST_LINE => Found::Line {
             length: at,
             taken: at + 1,
         },
@@ -55,7 +55,7 @@ fn find_last_line(held: &[u8], ended: bool) -> Found
     requires { HasNoLineFeed held.now }
     ensures { FindsLine held.now ended result }
 {
-    if held.len() > LONGEST {
+    if held.len() > MOST_LINE {
         return Found::Long;
     }
     if !ended {

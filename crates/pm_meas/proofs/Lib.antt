@@ -1,5 +1,4 @@
 pub mod CellLemmas
-pub mod WordLemmas
 pub mod NumberLemmas
 pub mod CatalogueLemmas
 pub mod BreaksLemmas

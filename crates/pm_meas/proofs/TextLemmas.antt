@@ -17,7 +17,8 @@ use Rattle.pm_meas.specs.declared.kind.Kind.TheVariants.{Cc, Gauge, Der, Si}
 use Rattle.pm_meas.specs.declared.kind.Reduce.{Reduce}
 use Rattle.pm_meas.specs.declared.kind.Reduce.TheVariants.{Sum, Mean, Max, Min}
 use Rattle.pm_meas.specs.declared.def.Def.{Def}
-use Rattle.pm_meas.specs.Def.{kind_word, reduce_word, number_words, IsKind, IsDef, ReadAs, def_text, words_of}
+use Rattle.pm_base.specs.Pieces.{words_of}
+use Rattle.pm_meas.specs.Def.{kind_word, reduce_word, number_words, IsKind, IsDef, ReadAs, def_text}
 
 -- no byte is a space
 abbrev pub HasNoSpace : List ℕ → Type 0

@@ -2,10 +2,11 @@
 use Rattle.std.specs.Prelude.{◌≡◌, ◌≢◌, ◌==◌, ℕ, ◌<◌, ◌≤◌, ◌↔◌, List, [], ◌∷◌, ◌++◌, length, map, All, AllPairs, Contains, Some, slice_get}
 use Rattle.std.specs.List.{before_first}
 use Rattle.std.specs.List.Sorted.{IsStrictlyIncreasing}
+use Rattle.pm_base.specs.Pieces.{words_of}
 use Rattle.pm_meas.specs.declared.def.Def.{Def}
 use Rattle.pm_meas.specs.declared.error.MeasError.{MeasError}
 use Rattle.pm_meas.specs.declared.error.MeasError.TheVariants.{I1, M1, M2, M3, M4, Memory}
-use Rattle.pm_meas.specs.Def.{IsDef, ReadAs, AreFourOrFive, AreNamed, HaveMethod, name_word, words_of}
+use Rattle.pm_meas.specs.Def.{IsDef, ReadAs, AreFourOrFive, AreNamed, HaveMethod, name_word}
 
 -- the names of definitions, in order
 abbrev pub names_of : List Def → List (List ℕ)

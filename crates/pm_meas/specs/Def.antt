@@ -1,6 +1,6 @@
 -- The line of an inventory that defines a measurement, behind its first word (this project's own; the kinds are those of TS 32.404).
-use Rattle.std.specs.Prelude.{◌≡◌, ◌≢◌, ◌≤◌, ◌==◌, ◌⊎◌, ℕ, List, [], ◌∷◌, length, codes, slice_index_or, drop}
-use Rattle.std.specs.List.{slice_split, join_with_byte}
+use Rattle.std.specs.Prelude.{◌≡◌, ◌≢◌, ◌≤◌, ◌⊎◌, ℕ, List, [], ◌∷◌, length, codes, slice_index_or, drop}
+use Rattle.std.specs.List.{join_with_byte}
 use Rattle.std.specs.Fmt.{decimal}
 use Rattle.pm_base.specs.declared.class.Class.{Class}
 use Rattle.pm_base.specs.Class.{class_name}
@@ -66,10 +66,6 @@ def_words def = def.name ∷ class_name def.class ∷ method_words def.kind def.
 
 abbrev pub def_text : Def → List ℕ
 def_text def = join_with_byte 32 (def_words def)
-
--- the words of a line: each single space parts two
-abbrev pub words_of : List ℕ → List (List ℕ)
-words_of line = slice_split (λ b. b == 32) line
 
 -- there are four or five words
 abbrev pub AreFourOrFive : List (List ℕ) → Type 0

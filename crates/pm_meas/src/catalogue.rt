@@ -4,7 +4,8 @@
 //! finds is compared with the name, and where it finds nothing the names are gone through.
 ghost use Rattle.std.specs.Prelude.{◌≡◌, ◌≢◌, ◌+◌, ◌<◌, ◌≤◌, ◌↔◌, ℕ, List, [], ◌∷◌, ◌++◌, length, Some, IfOk, IfErr, OnErr, IfSome, MatchOption, MatchResult, IsTrue, slice_get, ◌==◌, position};
 ghost use Rattle.std.specs.List.{before_first};
-ghost use Rattle.pm_meas.specs.Def.{words_of, IsDef};
+ghost use Rattle.pm_base.specs.Pieces.{words_of};
+ghost use Rattle.pm_meas.specs.Def.{IsDef};
 ghost use Rattle.pm_meas.specs.Catalogue.{names_of, Stands, IsCatalogue, Breaks, Adds, AreOfFamily};
 
 use crate::def::Def;

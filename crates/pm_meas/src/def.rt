@@ -1,6 +1,7 @@
 //! The definition of a measurement, and its words.
 ghost use Rattle.std.specs.Prelude.{◌≡◌, ◌∷◌, ◌++◌, List, ℕ, IfOk, OnOk};
-ghost use Rattle.pm_meas.specs.Def.{kind_word, reduce_word, IsDef, ReadAs, def_text, words_of};
+ghost use Rattle.pm_base.specs.Pieces.{words_of};
+ghost use Rattle.pm_meas.specs.Def.{kind_word, reduce_word, IsDef, ReadAs, def_text};
 
 use crate::kind::{Kind, Reduce};
 use pm_base::{Class, Text};

@@ -3,8 +3,9 @@
 //!     RRC.ConnEstabAtt.mo-Data NRCellCU CC SUM
 //!     VS.SetupTime NRCellDU DER MEAN 3
 ghost use Rattle.std.specs.Prelude.{List, MatchResult};
+ghost use Rattle.pm_base.specs.Pieces.{words_of};
 ghost use Rattle.pm_meas.specs.declared.def.Def.{Def};
-ghost use Rattle.pm_meas.specs.Def.{words_of, ReadAs};
+ghost use Rattle.pm_meas.specs.Def.{ReadAs};
 ghost use Rattle.pm_meas.specs.Catalogue.{Breaks};
 
 use crate::error::MeasError;

@@ -1,7 +1,10 @@
 //! The words of a line, which single spaces part: a further space makes an empty word, which counts.
-ghost use Rattle.std.specs.Prelude.{◌≡◌, ◌==◌, ◌∷◌, [], MatchOption, option_to_list, position};
+ghost use Rattle.std.specs.Prelude.{◌≡◌, ◌⊎◌, ◌∷◌, MatchOption, length, option_to_list};
 ghost use Rattle.std.specs.Option.{option_copied};
-ghost use Rattle.pm_meas.specs.Def.{words_of, AreFourOrFive};
+ghost use Rattle.pm_base.specs.Pieces.{words_of};
+ghost use Rattle.pm_meas.specs.Def.{AreFourOrFive};
+
+use pm_base::cut_at;
 
 /// The words of a line that has four or five.
 #[derive(Drop)]
@@ -13,19 +16,18 @@ pub struct Words<'a> {
     pub number: Option<&'a [u8]>,
 }
 
-fn space(line: &[u8]) -> Option<usize>
-    ensures { result ≡ position (λ b. b == 32) line.now }
+// The words of a text that has one or two.
+fn one_or_two(text: &[u8]) -> Option<(&[u8], Option<&[u8]>)>
+    ensures { MatchOption result
+        ((length (words_of text.now) ≡ 1) ⊎ (length (words_of text.now) ≡ 2) → ⊥)
+        (λ w. words_of text.now ≡ w.0.now ∷ option_to_list (option_copied w.1)) }
 {
-    line.iter().position(|b| *b == b' ')
-}
-
-// The first word, and what stands behind the space that ends it.
-fn cut(line: &[u8]) -> (&[u8], Option<&[u8]>)
-    ensures { MatchOption result.1 (words_of line.now ≡ result.0.now ∷ []) (λ rest. words_of line.now ≡ result.0.now ∷ words_of rest.now) }
-{
-    match space(line) {
-        Some(end) => (&line[..end], Some(&line[end + 1..])),
-        None => (line, None),
+    let Some((first, second)) = cut_at(b' ', text) else {
+        return Some((text, None));
+    };
+    match cut_at(b' ', second) {
+        None => Some((first, Some(second))),
+        Some(_) => None,
     }
 }
 
@@ -34,17 +36,10 @@ pub fn split(line: &[u8]) -> Option<Words<'_>>
     ensures { MatchOption result (AreFourOrFive (words_of line.now) → ⊥) (λ w.
         words_of line.now ≡ w.name.now ∷ w.class.now ∷ w.kind.now ∷ w.reduce.now ∷ option_to_list (option_copied w.number)) }
 {
-    let (name, rest) = cut(line);
-    let (class, rest) = cut(rest?);
-    let (kind, rest) = cut(rest?);
-    let (reduce, rest) = cut(rest?);
-    let number = match rest {
-        None => None,
-        Some(rest) => match cut(rest) {
-            (number, None) => Some(number),
-            (_, Some(_)) => return None,
-        },
-    };
+    let (name, rest) = cut_at(b' ', line)?;
+    let (class, rest) = cut_at(b' ', rest)?;
+    let (kind, rest) = cut_at(b' ', rest)?;
+    let (reduce, number) = one_or_two(rest)?;
     Some(Words {
         name,
         class,

@@ -16,7 +16,8 @@ use Rattle.pm_meas.specs.declared.kind.Reduce.TheVariants.{Sum, Mean, Max, Min}
 use Rattle.pm_meas.specs.declared.def.Def.{Def}
 use Rattle.pm_meas.specs.declared.error.MeasError.{MeasError}
 use Rattle.pm_meas.specs.declared.error.MeasError.TheVariants as meas
-use Rattle.pm_meas.specs.Def.{ReadAs, IsKind, kind_word, reduce_word, number_words, def_words, words_of}
+use Rattle.pm_base.specs.Pieces.{words_of}
+use Rattle.pm_meas.specs.Def.{ReadAs, IsKind, kind_word, reduce_word, number_words, def_words}
 use Rattle.pm_meas.specs.Catalogue.{Adds, Breaks}
 use Rattle.pm_meas.proofs.BreaksLemmas.{Breaks-one, Breaks-Memory}
 use Rattle.pm_model.specs.Inventory.{InventoryState, object_line, end_line}

@@ -1,11 +1,11 @@
 -- What the lines of an inventory add, and why a line is refused (this project's own).
 use Rattle.std.specs.Prelude.{◌≡◌, ◌≢◌, ◌⊎◌, ◌++◌, ℕ, List, [], ◌∷◌, codes, Some, None}
+use Rattle.pm_base.specs.Pieces.{words_of}
 use Rattle.pm_base.specs.declared.code.Code.{Code}
 use Rattle.pm_base.specs.declared.code.Code.TheVariants as code
 use Rattle.pm_dn.specs.Tree.{add_refusal}
 use Rattle.pm_dn.specs.declared.error.TreeError.{TreeError}
 use Rattle.pm_dn.specs.declared.error.TreeError.TheVariants as tree
-use Rattle.pm_meas.specs.Def.{words_of}
 use Rattle.pm_meas.specs.Catalogue.{Adds, Breaks}
 use Rattle.pm_meas.specs.declared.def.Def.{Def}
 use Rattle.pm_meas.specs.declared.error.MeasError.{MeasError}
