@@ -2,7 +2,7 @@
 use Rattle.std.specs.Prelude.{◌≡◌, ◌⊎◌, ◌+◌, ◌-◌, ◌^◌, ◌<◌, ◌≤◌, ℕ, Bool, true, false, List, [], ◌∷◌, ◌++◌, length, take}
 use Rattle.pm_base.specs.declared.line.Line.{Line}
 use Rattle.pm_base.specs.declared.line.Line.TheVariants.{Whole, Long, End}
-use Rattle.pm_base.specs.Line.{HasNoLineFeed, HasNoLine}
+use Rattle.pm_base.specs.Line.{MOST_LINE, HasNoLineFeed, HasNoLine}
 
 -- What a feed holds.
 pub record FeedState : Type 0 where
@@ -21,15 +21,15 @@ KnowsEnd feed left = feed.ended ≡ true → left ≡ []
 
 -- The first line of the bytes, and what is left behind it. The last line may lack its line feed.
 pub record IsFirstLine (before line after : List ℕ) : Type 0 where
-  pub short : length line ≤ 2048
+  pub short : length line ≤ MOST_LINE
   pub one : HasNoLineFeed line
   pub split : (before ≡ line ++ 10 ∷ after) ⊎ ((before ≡ line) × (after ≡ []) × (0 < length line))
 
 -- The answer on what is left, the line that is lent then, and what is left behind the call. It is `Whole` exactly where
--- there is a line of at most 2,048 bytes, `Long` where there is a longer one, and `End` where nothing is left.
+-- there is a line of at most `MOST_LINE` bytes, `Long` where there is a longer one, and `End` where nothing is left.
 abbrev pub IsNextLine : List ℕ → Line → List ℕ → List ℕ → Type 0
 IsNextLine before (Whole n) line after = IsFirstLine before line after × (n ≡ length line)
-IsNextLine before Long line after = (2048 < length before) × HasNoLineFeed (take 2049 before) × (line ≡ []) × (after ≡ before)
+IsNextLine before Long line after = (MOST_LINE < length before) × HasNoLineFeed (take (MOST_LINE + 1) before) × (line ≡ []) × (after ≡ before)
 IsNextLine before End line after = (before ≡ []) × (line ≡ []) × (after ≡ [])
 
 -- How many bytes a feed takes from its source at the most.

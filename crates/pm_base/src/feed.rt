@@ -7,7 +7,7 @@ ghost use Rattle.std.specs.Prelude.{◌≡◌, ◌+◌, ◌-◌, ◌^◌, ◌<�
 ghost use Rattle.std.specs.Io.{ReadsAtMost};
 ghost use Rattle.pm_base.specs.Causes.{Rose};
 ghost use Rattle.pm_base.specs.Outside.{Gives};
-ghost use Rattle.pm_base.specs.Line.{HasNoLine};
+ghost use Rattle.pm_base.specs.Line.{HasNoLine, MOST_LINE};
 ghost use Rattle.pm_base.specs.Feed.{FeedState, left_to, KnowsEnd, IsNextLine, MOST_READ, MeetsLimit, IsSpent};
 
 use crate::buffer::{move_to_front, read_behind};
@@ -229,7 +229,7 @@ impl Feed {
     #[cold]
     #[inline(never)]
     fn refill<S: Source>(&mut self, source: &mut S) -> Result<(), FeedError>
-        requires short { length self.old.buffered ≤ 2048 }
+        requires short { length self.old.buffered ≤ MOST_LINE }
         requires unended { self.old.ended ≡ false }
         requires none_lent { self.old.line ≡ [] }
         ensures stays { S.IsTold → left_to self.new (S.left source.new) ≡ left_to self.old (S.left source.old) }

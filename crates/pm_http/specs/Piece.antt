@@ -5,7 +5,7 @@ use Rattle.httparse.specs.Spans.{IsRequestWithin, IsRequestAt}
 use Rattle.httparse.specs.declared.spans.HeaderSpan.{HeaderSpan}
 use Rattle.httparse.specs.declared.spans.RequestSpans.{RequestSpans}
 use Rattle.pm_base.specs.Feed.{MOST_READ}
-use Rattle.pm_base.specs.Line.{HasNoLineFeed}
+use Rattle.pm_base.specs.Line.{MOST_LINE, HasNoLineFeed}
 use Rattle.pm_http.specs.declared.piece.Piece.{Piece}
 use Rattle.pm_http.specs.declared.piece.Piece.TheVariants.{Blank, Line, Part, End, Limit}
 use Rattle.pm_http.specs.declared.sight.Sight.{Sight}
@@ -52,9 +52,9 @@ IsLast Part = ⊥
 IsLast End = Unit {0}
 IsLast Limit = Unit {0}
 
--- The first bytes that are left end no line: 2,049 of them, or those that may still be read.
+-- The first bytes that are left end no line: one more than a line has at the most, or those that may still be read.
 abbrev pub BeginsLine : ℕ → List ℕ → Type 0
-BeginsLine given left = HasNoLineFeed (take 2049 left) ⊎ HasNoLineFeed (readable given left)
+BeginsLine given left = HasNoLineFeed (take (MOST_LINE + 1) left) ⊎ HasNoLineFeed (readable given left)
 
 -- How many bytes were taken behind this piece: fewer than may be at the end, and all that may be at the limit.
 abbrev pub PieceStands : ℕ → Piece → Type 0

@@ -6,7 +6,7 @@ ghost use Rattle.pm_http.specs.Piece.{Moves, IsLast, BeginsLine, PieceStands, Is
 
 use crate::HttpError;
 use crate::taking::take_behind;
-use pm_base::{Feed, FeedError, Line, Source};
+use pm_base::{Feed, FeedError, Line, MOST_LINE, Source};
 use std::alloc::AllocError;
 
 /// A piece of a head.
@@ -23,9 +23,6 @@ pub enum Piece {
     /// Nothing, where no more may be read.
     Limit,
 }
-
-// The most bytes of a line that a feed lends.
-const MOST_LINE: usize = 2048;
 
 /// Moves the next line, or a part of it, behind what is gathered.
 pub fn read_piece<S: Source>(
