@@ -1,9 +1,9 @@
 -- Whether the names of slots are two words, the object's and the metric's.
 use Rattle.std.specs.Prelude.{◌&&◌, ℕ, Bool, false, List, [], ◌∷◌, length, nat_le}
 use Rattle.std.specs.List.{list_all}
+use Rattle.pm_base.specs.Pieces.{words_of}
 use Rattle.pm_model.specs.Slot.{Slot}
 use Rattle.pm_model.specs.SlotNames.{slot_names}
-use Rattle.pm_model.specs.EventLine.{words_of}
 
 -- Whether there are two words, of a byte at least each.
 abbrev pub are_two : List (List ℕ) → Bool

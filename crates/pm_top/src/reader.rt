@@ -1,7 +1,7 @@
 //! The reading of lines of events, most of which have the moment of the line before them, byte for byte.
 ghost use Rattle.std.specs.Prelude.{◌≡◌, ◌≤◌, ◌<◌, ◌++◌, ◌∷◌, [], ℕ, List, length, take, true, Ok, IfOk, IfSome, IsTrue, slice_index};
 ghost use Rattle.pm_base.specs.Number.{is_moment, number_of};
-ghost use Rattle.pm_model.specs.EventLine.{words_of};
+ghost use Rattle.pm_base.specs.Pieces.{words_of};
 ghost use Rattle.pm_model.specs.Event.{read_event};
 ghost use Rattle.pm_top.specs.TwoWords.{is_two_words, have_two_words};
 
