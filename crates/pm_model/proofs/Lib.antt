@@ -7,6 +7,7 @@ pub mod WholeLinesLemmas
 pub mod ReadingLemmas
 pub mod SlotTableLemmas
 pub mod SlotNamesLemmas
+pub mod EventSlotLemmas
 pub mod TickLemmas
 pub mod HistoryLemmas
 pub mod StayLemmas
