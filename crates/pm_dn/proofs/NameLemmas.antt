@@ -1,18 +1,20 @@
 -- A text is refused, or it is the text of one name.
-use Rattle.std.proofs.Common.{◌≡◌, ◌∙◌, ◌⊎◌, inl, inr, not, ◌||◌, ◌&&◌, ℕ, ◌+◌, ◌≤◌, Bool, true, false, List, [], ◌∷◌, Option, Some, None, length, map, refl, sym, ap, eqb, ltb, arith}
+use Rattle.std.proofs.Common.{◌≡◌, ◌∙◌, ◌⊎◌, inl, inr, not, ◌||◌, ◌&&◌, ℕ, ◌≤◌, Bool, true, false, List, [], ◌∷◌, Option, Some, None, length, map, refl, sym, ap, eqb, ltb, arith}
 use Rattle.std.specs.List.{join_with_byte, list_any, All}
 use Rattle.std.specs.Char.{is_ascii_alphanumeric}
 use Rattle.std.proofs.lemmas.Bool.{ltb-false, le-ltb}
 use Rattle.std.proofs.lemmas.Bool.Decides.{nat_tests}
 use Rattle.std.proofs.lemmas.List.{length-map}
 use Rattle.std.proofs.lemmas.List.Elements.{All-cons, All-head, All-tail, All-nil, All-append, All-weaker}
-use Rattle.std.proofs.lemmas.List.Splits.{slice_split_none, slice_split_at, length-slice_split, join_with_byte-slice_split}
-use Rattle.std.proofs.lemmas.List.Sums.{count_by-le-length}
+use Rattle.std.proofs.lemmas.List.Splits.{slice_split_none, slice_split_at, join_with_byte-slice_split}
 use Rattle.pm_base.specs.Names.{is_name_char}
+use Rattle.pm_base.specs.Pieces.{pieces_of}
+use Rattle.pm_base.proofs.PiecesLemmas.{length-pieces_of}
 use Rattle.pm_dn.specs.declared.error.DnError.{DnError}
 use Rattle.pm_dn.specs.declared.error.DnError.TheVariants.{N1, N2, N3, N4, N5, Memory}
-use Rattle.pm_dn.specs.Name.{Part, IsPart, IsNameOf, part_of, part_text, name_text, name_of, pieces, is_comma, is_equals}
+use Rattle.pm_dn.specs.Name.{Part, IsPart, IsNameOf, part_of, part_text, name_text, name_of, is_equals}
 use Rattle.pm_dn.specs.Refusal.{when_broken, first_code, part_refusal, name_refusal, is_of_class_alphabet, is_of_id_alphabet}
+use Rattle.pm_dn.proofs.PieceLemmas.{is_comma}
 use Rattle.pm_dn.proofs.PartLemmas.{IsPart-part_of, part_of-part_text, part_refusal-part_text}
 
 pub first_code-none : {E : Type 0} (answer : Option E) (answers : List (Option E)) → first_code (answer ∷ answers) ≡ None → (answer ≡ None) × (first_code answers ≡ None)
@@ -33,12 +35,12 @@ part_text-lacks-comma part is =
     (All-cons (λ b. is_comma b ≡ false) 61 part.id refl (All-weaker (λ b. is_name_char b ≡ true) (λ b. is_comma b ≡ false) id-lacks-comma part.id is.id_is.alphabet))
 
 -- the text of a name is cut into the texts of its parts
-pub pieces-name_text : (name : List Part) → All IsPart name → 1 ≤ length name → pieces (name_text name) ≡ map part_text name
-pieces-name_text [] parts least = absurd (omega arith)
-pieces-name_text (p ∷ []) parts least = slice_split_none is_comma (part_text p) (part_text-lacks-comma p (All-head IsPart p [] parts))
-pieces-name_text (p ∷ q ∷ name) parts least =
+pub pieces_of-name_text : (name : List Part) → All IsPart name → 1 ≤ length name → pieces_of 44 (name_text name) ≡ map part_text name
+pieces_of-name_text [] parts least = absurd (omega arith)
+pieces_of-name_text (p ∷ []) parts least = slice_split_none is_comma (part_text p) (part_text-lacks-comma p (All-head IsPart p [] parts))
+pieces_of-name_text (p ∷ q ∷ name) parts least =
     slice_split_at is_comma (part_text p) 44 (name_text (q ∷ name)) (part_text-lacks-comma p (All-head IsPart p (q ∷ name) parts)) refl
-    ∙ ap (λ l. part_text p ∷ l) (pieces-name_text (q ∷ name) (All-tail IsPart p (q ∷ name) parts) (omega arith))
+    ∙ ap (λ l. part_text p ∷ l) (pieces_of-name_text (q ∷ name) (All-tail IsPart p (q ∷ name) parts) (omega arith))
 
 -- parts are those that their texts spell
 pub map-part_of : (name : List Part) → All IsPart name → map part_of (map part_text name) ≡ name
@@ -71,32 +73,27 @@ stages false true None none = cc
 stages false false None none = (refl, refl, refl)
 
 -- no part of an unbroken text breaks a rule
-pub parts-none : (bytes : List ℕ) → name_refusal bytes ≡ None → first_code (map part_refusal (pieces bytes)) ≡ None
-parts-none bytes none = (stages (ltb 256 (length bytes)) (ltb 8 (length (pieces bytes))) (first_code (map part_refusal (pieces bytes))) none).1
-
--- a text has at least one piece, and at most one more than bytes
-pub length-pieces : (bytes : List ℕ) → (1 ≤ length (pieces bytes)) × (length (pieces bytes) ≤ length bytes + 1)
-length-pieces bytes =
-    (omega (arith, length-slice_split is_comma bytes), omega (arith, length-slice_split is_comma bytes, count_by-le-length is_comma bytes))
+pub parts-none : (bytes : List ℕ) → name_refusal bytes ≡ None → first_code (map part_refusal (pieces_of 44 bytes)) ≡ None
+parts-none bytes none = (stages (ltb 256 (length bytes)) (ltb 8 (length (pieces_of 44 bytes))) (first_code (map part_refusal (pieces_of 44 bytes))) none).1
 
 -- a text that breaks no rule is the text of the name that it spells
 pub IsNameOf-name_of : (bytes : List ℕ) → name_refusal bytes ≡ None → IsNameOf bytes (name_of bytes)
 IsNameOf-name_of bytes none =
-    let rules' = stages (ltb 256 (length bytes)) (ltb 8 (length (pieces bytes))) (first_code (map part_refusal (pieces bytes))) none in
-    let parts = parts-of-unbroken (pieces bytes) rules'.1 in
-    let many : length (name_of bytes) ≡ length (pieces bytes) = length-map (pieces bytes) part_of in
+    let rules' = stages (ltb 256 (length bytes)) (ltb 8 (length (pieces_of 44 bytes))) (first_code (map part_refusal (pieces_of 44 bytes))) none in
+    let parts = parts-of-unbroken (pieces_of 44 bytes) rules'.1 in
+    let many : length (name_of bytes) ≡ length (pieces_of 44 bytes) = length-map (pieces_of 44 bytes) part_of in
     record {
       text = ap (join_with_byte 44) parts.1 ∙ join_with_byte-slice_split 44 bytes;
       parts = parts.0;
-      least = omega (arith, many, (length-pieces bytes).0);
-      most = omega (arith, many, ltb-false 8 (length (pieces bytes)) rules'.2);
+      least = omega (arith, many, (length-pieces_of 44 bytes).0);
+      most = omega (arith, many, ltb-false 8 (length (pieces_of 44 bytes)) rules'.2);
       short = ltb-false 256 (length bytes) rules'.0;
     }
 
 -- a text spells no other name than the one of which it is the text
 pub name_of-is : (bytes : List ℕ) (name : List Part) → IsNameOf bytes name → name_of bytes ≡ name
 name_of-is bytes name is =
-    let cut : pieces bytes ≡ map part_text name = ap pieces (sym is.text) ∙ pieces-name_text name is.parts is.least in
+    let cut : pieces_of 44 bytes ≡ map part_text name = ap (pieces_of 44) (sym is.text) ∙ pieces_of-name_text name is.parts is.least in
     ap (map part_of) cut ∙ map-part_of name is.parts
 
 pub IsNameOf-unique : (bytes : List ℕ) (name other : List Part) → IsNameOf bytes name → IsNameOf bytes other → name ≡ other
@@ -105,11 +102,11 @@ IsNameOf-unique bytes name other is is' = sym (name_of-is bytes name is) ∙ nam
 -- the text of a name breaks no rule
 pub name_refusal-none : (bytes : List ℕ) (name : List Part) → IsNameOf bytes name → name_refusal bytes ≡ None
 name_refusal-none bytes name is =
-    let cut : pieces bytes ≡ map part_text name = ap pieces (sym is.text) ∙ pieces-name_text name is.parts is.least in
-    let many : length (pieces bytes) ≡ length name = ap length cut ∙ length-map name part_text in
+    let cut : pieces_of 44 bytes ≡ map part_text name = ap (pieces_of 44) (sym is.text) ∙ pieces_of-name_text name is.parts is.least in
+    let many : length (pieces_of 44 bytes) ≡ length name = ap length cut ∙ length-map name part_text in
     let short = le-ltb 256 (length bytes) is.short in
-    let few : ltb 8 (length (pieces bytes)) ≡ false = le-ltb 8 (length (pieces bytes)) (omega (arith, many, is.most)) in
-    let parts : first_code (map part_refusal (pieces bytes)) ≡ None = ap (λ l. first_code (map part_refusal l)) cut ∙ parts-unbroken name is.parts in
+    let few : ltb 8 (length (pieces_of 44 bytes)) ≡ false = le-ltb 8 (length (pieces_of 44 bytes)) (omega (arith, many, is.most)) in
+    let parts : first_code (map part_refusal (pieces_of 44 bytes)) ≡ None = ap (λ l. first_code (map part_refusal l)) cut ∙ parts-unbroken name is.parts in
     rw (short, parts, few)
 
 -- a text that breaks a rule is the text of no name
@@ -146,4 +143,4 @@ stages-memory false false None not' is = cc
 -- no rule has the code for want of memory
 pub name_refusal-memory : (bytes : List ℕ) (code : DnError) → name_refusal bytes ≡ Some code → code ≡ Memory → ⊥
 name_refusal-memory bytes code is memory =
-    stages-memory (ltb 256 (length bytes)) (ltb 8 (length (pieces bytes))) (first_code (map part_refusal (pieces bytes))) (parts-memory (pieces bytes)) (is ∙ ap Some memory)
+    stages-memory (ltb 256 (length bytes)) (ltb 8 (length (pieces_of 44 bytes))) (first_code (map part_refusal (pieces_of 44 bytes))) (parts-memory (pieces_of 44 bytes)) (is ∙ ap Some memory)

@@ -1,28 +1,16 @@
 -- Lists cut at a byte.
-use Rattle.std.proofs.Common.{one-add, ◌≡◌, ◌∙◌, ℕ, ◌+◌, ◌<◌, Bool, true, false, List, [], ◌∷◌, ◌||◌, suc, cond, not, Some, None, length, take, refl, ap, eqb, arith}
-use Rattle.std.specs.List.{list_any, position_or_len, before_first, after_first, All}
+use Rattle.std.proofs.Common.{one-add, ◌≡◌, ◌∙◌, ℕ, ◌+◌, ◌<◌, Bool, true, false, List, [], ◌∷◌, ◌||◌, suc, cond, not, length, take, drop, get_or, refl, sym, ap, eqb, arith}
+use Rattle.std.specs.List.{list_any, position_or_len, before_first, after_first, join_with_byte, All}
 use Rattle.std.proofs.Math.ListN.{drop_of_length-le}
-use Rattle.std.proofs.lemmas.List.Elements.{All-from_get_or, All-nil, All-cons}
-use Rattle.std.proofs.lemmas.List.Folds.{list_any_none, list_any_at}
+use Rattle.std.proofs.lemmas.List.Elements.{All-nil, All-cons}
 use Rattle.std.proofs.lemmas.Bool.{false_from_ne_true}
-use Rattle.std.proofs.lemmas.List.Sums.{position_or_len_is}
-use Rattle.std.proofs.lemmas.List.Splits.{slice_split_none, slice_split_first}
-use Rattle.memchr.specs.Find.{IsFirstByte, is_byte}
-use Rattle.pm_dn.specs.Name.{is_comma, pieces}
+use Rattle.std.proofs.lemmas.List.Splits.{slice_split_none, slice_split_first, join_with_byte-slice_split}
+use Rattle.pm_base.specs.Pieces.{pieces_of}
+use Rattle.pm_base.proofs.PiecesLemmas.{length-pieces_of}
 
--- the byte stands nowhere
-pub lacks-from_first : (byte : ℕ) (bs : List ℕ) → IsFirstByte (is_byte byte) bs None → All (λ b. eqb b byte ≡ false) bs
-lacks-from_first byte bs nowhere = All-from_get_or (λ b. eqb b byte ≡ false) bs 0 (λ k lt. false_from_ne_true _ (nowhere k (omega arith) lt))
-
-pub list_any-from_first_none : (byte : ℕ) (bs : List ℕ) → IsFirstByte (is_byte byte) bs None → list_any (λ b. eqb b byte) bs ≡ false
-list_any-from_first_none byte bs nowhere = list_any_none (λ b. eqb b byte) bs (lacks-from_first byte bs nowhere)
-
-pub position_or_len-from_first : (byte : ℕ) (bs : List ℕ) (at : ℕ) → IsFirstByte (is_byte byte) bs (Some at) → position_or_len (λ b. eqb b byte) bs ≡ at
-position_or_len-from_first byte bs at is =
-    position_or_len_is (λ b. eqb b byte) bs at 0 (omega (arith, is.0.high)) (λ k lt. false_from_ne_true _ (is.0.before k (omega arith) lt)) (λ _. is.1)
-
-pub list_any-from_first : (byte : ℕ) (bs : List ℕ) (at : ℕ) → IsFirstByte (is_byte byte) bs (Some at) → list_any (λ b. eqb b byte) bs ≡ true
-list_any-from_first byte bs at is = list_any_at (λ b. eqb b byte) bs at 0 is.0.high is.1
+-- the byte between two parts
+abbrev pub is_comma : ℕ → Bool
+is_comma b = eqb b 44
 
 -- a list with an element that passes has a first one
 position-step : (here any : Bool) (n m : ℕ) → (any ≡ true → n < m) → (here || any) ≡ true → cond (not here) (1 + n) 0 < suc m
@@ -47,20 +35,39 @@ All-from_list_any p [] none = All-nil (λ x. p x ≡ false)
 All-from_list_any p (x ∷ xs) none =
     All-cons (λ x. p x ≡ false) x xs (lacks-head (p x) (list_any p xs) none) (All-from_list_any p xs (lacks-tail (p x) (list_any p xs) none))
 
--- the pieces of a text begin with what stands before its first comma
-pub pieces-some : (bytes : List ℕ) → list_any is_comma bytes ≡ true → pieces bytes ≡ before_first is_comma bytes ∷ pieces (after_first is_comma bytes)
-pieces-some bytes some = slice_split_first is_comma bytes 0 (position_or_len-lt-length is_comma bytes some)
+-- the first piece is what stands before the first such byte
+pub pieces_of-first : (byte : ℕ) (bytes : List ℕ) → list_any (λ b. eqb b byte) bytes ≡ true → pieces_of byte bytes ≡ before_first (λ b. eqb b byte) bytes ∷ pieces_of byte (after_first (λ b. eqb b byte) bytes)
+pieces_of-first byte bytes some = slice_split_first (λ b. eqb b byte) bytes 0 (position_or_len-lt-length (λ b. eqb b byte) bytes some)
 
--- a text without a comma is its one piece
-pub pieces-none : (bytes : List ℕ) → list_any is_comma bytes ≡ false → pieces bytes ≡ bytes ∷ []
-pieces-none bytes none = slice_split_none is_comma bytes (All-from_list_any is_comma bytes none)
+-- where the byte stands nowhere, all is one piece
+pub pieces_of-one : (byte : ℕ) (bytes : List ℕ) → list_any (λ b. eqb b byte) bytes ≡ false → pieces_of byte bytes ≡ bytes ∷ []
+pieces_of-one byte bytes none = slice_split_none (λ b. eqb b byte) bytes (All-from_list_any (λ b. eqb b byte) bytes none)
 
--- what is left of the pieces, before the last was given
-pub left-some : (is_done : Bool) (now : List (List ℕ)) (bytes piece rest : List ℕ) → cond is_done [] (pieces bytes) ≡ now → is_done ≡ false → (list_any is_comma bytes ≡ true) × (piece ≡ before_first is_comma bytes) × (rest ≡ after_first is_comma bytes) → now ≡ piece ∷ cond is_done [] (pieces rest)
-left-some is_done now bytes piece rest is going cut = rw (← is, going, cut.1, cut.2) (pieces-some bytes cut.0)
+no_pieces : (byte : ℕ) (bytes : List ℕ) → pieces_of byte bytes ≡ [] → ⊥
+no_pieces byte bytes none = omega (arith, (length-pieces_of byte bytes).0, ap length none)
 
-pub left-none : (is_done : Bool) (now : List (List ℕ)) (bytes : List ℕ) → cond is_done [] (pieces bytes) ≡ now → is_done ≡ false → list_any is_comma bytes ≡ false → now ≡ bytes ∷ []
-left-none is_done now bytes is going none = rw (← is, going) (pieces-none bytes none)
+-- where all is one piece, the byte stands nowhere
+pub lacks-from_one : (byte : ℕ) (bytes : List ℕ) → pieces_of byte bytes ≡ bytes ∷ [] → list_any (λ b. eqb b byte) bytes ≡ false
+lacks-from_one byte bytes one = false_from_ne_true (list_any (λ b. eqb b byte) bytes) (λ some.
+    no_pieces byte (after_first (λ b. eqb b byte) bytes) (ap (drop 1) (sym (pieces_of-first byte bytes some) ∙ one)))
+
+-- where a first piece is cut off, the byte stands behind it
+has-from_cut : (byte : ℕ) (bytes first rest : List ℕ) (some : Bool) → list_any (λ b. eqb b byte) bytes ≡ some → pieces_of byte bytes ≡ first ∷ pieces_of byte rest → some ≡ true
+has-from_cut byte bytes first rest true is cut = refl
+has-from_cut byte bytes first rest false is cut = absurd (no_pieces byte rest (ap (drop 1) (sym cut ∙ pieces_of-one byte bytes is)))
+
+-- what is cut off stands before the first such byte, and the rest behind it
+pub parts-from_cut : (byte : ℕ) (bytes first rest : List ℕ) → pieces_of byte bytes ≡ first ∷ pieces_of byte rest
+    → (list_any (λ b. eqb b byte) bytes ≡ true) × (first ≡ before_first (λ b. eqb b byte) bytes) × (rest ≡ after_first (λ b. eqb b byte) bytes)
+parts-from_cut byte bytes first rest cut =
+    let p = λ (b : ℕ). eqb b byte in
+    let some : list_any p bytes ≡ true = has-from_cut byte bytes first rest (list_any p bytes) refl cut in
+    let same : first ∷ pieces_of byte rest ≡ before_first p bytes ∷ pieces_of byte (after_first p bytes) = sym cut ∙ pieces_of-first byte bytes some in
+    let behind : pieces_of byte rest ≡ pieces_of byte (after_first p bytes) = ap (drop 1) same in (
+      some,
+      ap (λ (l : List (List ℕ)). get_or l 0 []) same,
+      sym (join_with_byte-slice_split byte rest) ∙ ap (join_with_byte byte) behind ∙ join_with_byte-slice_split byte (after_first p bytes),
+    )
 
 -- where no element passes, all stand before the first that does
 pub before_first-all : {X : Type 0} (p : X → Bool) (xs : List X) → list_any p xs ≡ false → before_first p xs ≡ xs

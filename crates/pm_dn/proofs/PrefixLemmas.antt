@@ -11,11 +11,12 @@ use Rattle.std.proofs.lemmas.List.Folds.{list_any_none}
 use Rattle.std.proofs.lemmas.List.Splits.{length-slice_split, join_with_byte-slice_split}
 use Rattle.std.proofs.lemmas.Slice.Eq.{bytes_eq-Decides, starts_is}
 use Rattle.memchr.specs.Find.{IsLastByte, is_byte}
-use Rattle.pm_dn.specs.Name.{Part, IsNameOf, part_of, part_text, name_text, name_of, pieces, is_comma}
+use Rattle.pm_base.specs.Pieces.{pieces_of}
+use Rattle.pm_dn.specs.Name.{Part, IsNameOf, part_of, part_text, name_text, name_of}
 use Rattle.pm_dn.specs.Refusal.{first_code, part_refusal, name_refusal}
 use Rattle.pm_dn.specs.Containment.{superior_text}
 use Rattle.pm_dn.specs.Tree.{part_eq, is_under}
-use Rattle.pm_dn.proofs.PieceLemmas.{pieces-none}
+use Rattle.pm_dn.proofs.PieceLemmas.{is_comma, pieces_of-one}
 use Rattle.pm_dn.proofs.NameLemmas.{IsNameOf-name_of, parts-of-unbroken, parts-none}
 
 onto_first-append : {X : Type 0} (x : X) (parts more : List (List X)) → 1 ≤ length parts → onto_first x (parts ++ more) ≡ onto_first x parts ++ more
@@ -41,7 +42,7 @@ join_with_byte-append c (x ∷ z ∷ xs) y ys least =
 
 -- the name of two texts with a comma between them
 pub name_of-append : (front rest : List ℕ) → name_of (front ++ 44 ∷ rest) ≡ name_of front ++ name_of rest
-name_of-append front rest = ap (map part_of) (slice_split-append is_comma front 44 rest refl) ∙ map-append part_of (pieces front) (pieces rest)
+name_of-append front rest = ap (map part_of) (slice_split-append is_comma front 44 rest refl) ∙ map-append part_of (pieces_of 44 front) (pieces_of 44 rest)
 
 -- a name that begins with the parts of another is that one, or has its text and a comma in front
 pub text-of-prefix : (root text : List ℕ) (more : List Part) → IsNameOf root (name_of root) → IsNameOf text (name_of text) → name_of text ≡ name_of root ++ more → (text ≡ root) ⊎ ((rest : List ℕ) × (text ≡ root ++ 44 ∷ rest))
@@ -136,23 +137,23 @@ superior-some bytes at none is =
     let comma : get_or bytes at 0 ≡ 44 = (Decides-eqb _ 44).0 is.1 in
     let cut : drop at bytes ≡ 44 ∷ last = rw add-one (drop-cons bytes at 0 is.0.high ∙ ap (λ b. b ∷ drop (suc at) bytes) comma) in
     let whole : bytes ≡ front ++ 44 ∷ last = sym (take-append-drop at bytes) ∙ ap (λ l. front ++ l) cut in
-    let cuts : pieces bytes ≡ pieces front ++ last ∷ [] =
-    ap pieces whole ∙ slice_split-append is_comma front 44 last refl ∙ ap (λ l. pieces front ++ l) (pieces-none last lacks) in
-    let names : name_of bytes ≡ name_of front ++ part_of last ∷ [] = ap (map part_of) cuts ∙ map-append part_of (pieces front) (last ∷ []) in
+    let cuts : pieces_of 44 bytes ≡ pieces_of 44 front ++ last ∷ [] =
+    ap (pieces_of 44) whole ∙ slice_split-append is_comma front 44 last refl ∙ ap (λ l. pieces_of 44 front ++ l) (pieces_of-one 44 last lacks) in
+    let names : name_of bytes ≡ name_of front ++ part_of last ∷ [] = ap (map part_of) cuts ∙ map-append part_of (pieces_of 44 front) (last ∷ []) in
     let short : length (name_of bytes) - 1 ≡ length (name_of front) = omega (arith, ap length names, length-append (name_of front) (part_of last ∷ [])) in
     let outer : take (length (name_of bytes) - 1) (name_of bytes) ≡ name_of front =
     ap (λ n. take n (name_of bytes)) short ∙ ap (take (length (name_of front))) names ∙ take_at (name_of front) (part_of last ∷ []) (length (name_of front)) refl in
-    let unbroken : first_code (map part_refusal (pieces bytes)) ≡ None = parts-none bytes none in
-    let front-none : first_code (map part_refusal (pieces front)) ≡ None =
-    first_code-front (map part_refusal (pieces front)) (part_refusal last ∷ [])
-    (ap first_code (sym (map-append part_refusal (pieces front) (last ∷ []))) ∙ ap (λ l. first_code (map part_refusal l)) (sym cuts) ∙ unbroken) in
-    let texts : map part_text (name_of front) ≡ pieces front = (parts-of-unbroken (pieces front) front-none).1 in
+    let unbroken : first_code (map part_refusal (pieces_of 44 bytes)) ≡ None = parts-none bytes none in
+    let front-none : first_code (map part_refusal (pieces_of 44 front)) ≡ None =
+    first_code-front (map part_refusal (pieces_of 44 front)) (part_refusal last ∷ [])
+    (ap first_code (sym (map-append part_refusal (pieces_of 44 front) (last ∷ []))) ∙ ap (λ l. first_code (map part_refusal l)) (sym cuts) ∙ unbroken) in
+    let texts : map part_text (name_of front) ≡ pieces_of 44 front = (parts-of-unbroken (pieces_of 44 front) front-none).1 in
     sym (ap name_text outer ∙ ap (join_with_byte 44) texts ∙ join_with_byte-slice_split 44 front)
 
 -- a name of one part has no superior
 pub superior-none : (bytes : List ℕ) → IsLastByte (is_byte 44) bytes None → superior_text bytes ≡ []
 superior-none bytes nowhere =
     let lacks : list_any is_comma bytes ≡ false = list_any_none is_comma bytes (All-from_get_or (λ b. is_comma b ≡ false) bytes 0 (λ k lt. false_from_ne_true _ (nowhere k (omega arith) lt))) in
-    let cuts : pieces bytes ≡ bytes ∷ [] = pieces-none bytes lacks in
+    let cuts : pieces_of 44 bytes ≡ bytes ∷ [] = pieces_of-one 44 bytes lacks in
     let names : name_of bytes ≡ part_of bytes ∷ [] = ap (map part_of) cuts in
     ap (λ l. name_text (take (length l - 1) l)) names

@@ -1,7 +1,8 @@
 -- Distinguished names of managed objects, and their texts (TS 32.300; alphabet and limits are this project's own).
 use Rattle.std.specs.Prelude.{◌≡◌, ◌≤◌, ◌==◌, ℕ, Bool, List, ◌∷◌, ◌++◌, length, map, All}
-use Rattle.std.specs.List.{join_with_byte, slice_split, before_first, after_first}
+use Rattle.std.specs.List.{join_with_byte, before_first, after_first}
 use Rattle.pm_base.specs.Names.{IsDnClass, IsDnId}
+use Rattle.pm_base.specs.Pieces.{pieces_of}
 
 -- One part of a name: a class, and the id of the object below its superior.
 pub record Part : Type 0 where
@@ -29,22 +30,14 @@ pub record IsNameOf (bytes : List ℕ) (name : List Part) : Type 0 where
   pub most : length name ≤ 8
   pub short : length bytes ≤ 256
 
--- The byte between two parts.
-abbrev pub is_comma : ℕ → Bool
-is_comma b = b == 44
-
 -- The byte between class and id.
 abbrev pub is_equals : ℕ → Bool
 is_equals b = b == 61
-
--- What stands between the commas of a text.
-abbrev pub pieces : List ℕ → List (List ℕ)
-pieces bytes = slice_split is_comma bytes
 
 -- What stands before and behind the first `=` of a piece.
 abbrev pub part_of : List ℕ → Part
 part_of piece = record { class = before_first is_equals piece; id = after_first is_equals piece }
 
--- The only name that a text can have.
+-- The only name that a text can have: its commas part its parts.
 abbrev pub name_of : List ℕ → List Part
-name_of bytes = map part_of (pieces bytes)
+name_of bytes = map part_of (pieces_of 44 bytes)

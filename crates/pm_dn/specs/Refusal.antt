@@ -3,7 +3,8 @@ use Rattle.std.specs.Prelude.{◌==◌, ◌&&◌, ◌||◌, ℕ, Bool, not, nat_
 use Rattle.std.specs.List.{list_any, list_all}
 use Rattle.std.specs.Char.{is_ascii_alphabetic, is_ascii_alphanumeric}
 use Rattle.pm_base.specs.Names.{is_name_char}
-use Rattle.pm_dn.specs.Name.{part_of, pieces, is_equals}
+use Rattle.pm_base.specs.Pieces.{pieces_of}
+use Rattle.pm_dn.specs.Name.{part_of, is_equals}
 use Rattle.pm_dn.specs.declared.error.DnError.{DnError}
 use Rattle.pm_dn.specs.declared.error.DnError.TheVariants.{N1, N2, N3, N4, N5}
 
@@ -41,6 +42,6 @@ abbrev pub name_refusal : List ℕ → Option DnError
 name_refusal bytes =
     first_code
     (when_broken (nat_lt 256 (length bytes)) N4
-    ∷ first_code (map part_refusal (pieces bytes))
-    ∷ when_broken (nat_lt 8 (length (pieces bytes))) N5
+    ∷ first_code (map part_refusal (pieces_of 44 bytes))
+    ∷ when_broken (nat_lt 8 (length (pieces_of 44 bytes))) N5
     ∷ [])

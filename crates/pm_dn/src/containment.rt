@@ -7,7 +7,7 @@ ghost use Rattle.pm_dn.specs.Refusal.{name_refusal};
 ghost use Rattle.pm_dn.specs.Tree.{is_under};
 ghost use Rattle.pm_dn.specs.Containment.{path_to, has_path_to, class_of, superior_text};
 
-use crate::pieces::{Pieces, cut_at};
+use crate::pieces::{Pieces, class_and_id};
 use memchr::memrchr;
 use pm_base::Class;
 
@@ -28,7 +28,7 @@ fn path_to(class: Class) -> &'static [Class]
 pub(crate) fn class_word(piece: &[u8]) -> &[u8]
     ensures { result.now ≡ (part_of piece.now).class }
 {
-    match cut_at(piece, b'=') {
+    match class_and_id(piece) {
         Some((class, _)) => class,
         None => piece,
     }

@@ -1,21 +1,21 @@
 //! The parts of a text: what stands between its commas, and before and behind the first `=` of each.
-ghost use Rattle.std.specs.Prelude.{◌≡◌, ◌==◌, true, false, [], ◌∷◌, MatchOption};
-ghost use Rattle.std.specs.List.{list_any, before_first, after_first};
-ghost use Rattle.pm_dn.specs.Name.{pieces};
+ghost use Rattle.std.specs.Prelude.{◌≡◌, true, false, [], ◌∷◌, MatchOption};
+ghost use Rattle.std.specs.List.{list_any};
+ghost use Rattle.pm_base.specs.Pieces.{pieces_of};
+ghost use Rattle.pm_dn.specs.Name.{is_equals, part_of};
 
-use memchr::memchr;
+use pm_base::cut_at;
 use std::marker::Model;
 
-/// What stands before the first of these bytes, and what behind it.
-pub(crate) fn cut_at(text: &[u8], byte: u8) -> Option<(&[u8], &[u8])>
+/// The class and the id of a part; none where it has no `=`.
+pub(crate) fn class_and_id(piece: &[u8]) -> Option<(&[u8], &[u8])>
     ensures { MatchOption result
-        (list_any (λ b. b == byte) text.now ≡ false)
-        (λ x. (list_any (λ b. b == byte) text.now ≡ true)
-        × (x.0.now ≡ before_first (λ b. b == byte) text.now)
-        × (x.1.now ≡ after_first (λ b. b == byte) text.now)) }
+        (list_any is_equals piece.now ≡ false)
+        (λ x. (list_any is_equals piece.now ≡ true)
+        × (x.0.now ≡ (part_of piece.now).class)
+        × (x.1.now ≡ (part_of piece.now).id)) }
 {
-    let at = memchr(byte, text)?;
-    Some((&text[..at], &text[at + 1..]))
+    cut_at(b'=', piece)
 }
 
 /// The pieces of a text that are still to come, seen as their list.
@@ -27,17 +27,17 @@ pub(crate) struct Pieces<'a> {
 
 impl<'a> Model for Pieces<'a> {
     ghost use Rattle.std.specs.Prelude.{ℕ, List, [], if◌then◌else◌};
-    ghost use Rattle.pm_dn.specs.Name.{pieces};
+    ghost use Rattle.pm_base.specs.Pieces.{pieces_of};
 
     ghost Value = { List (List ℕ) };
 
-    ghost view = { λ p. if p.is_done then [] else pieces p.rest.now };
+    ghost view = { λ p. if p.is_done then [] else pieces_of 44 p.rest.now };
 }
 
 impl<'a> Pieces<'a> {
     /// All pieces of a text, of which there is at least one.
     pub(crate) fn of(text: &'a [u8]) -> Pieces<'a>
-        ensures { result ≡ pieces text.now }
+        ensures { result ≡ pieces_of 44 text.now }
     {
         Pieces {
             rest: text,
@@ -54,7 +54,7 @@ impl<'a> Pieces<'a> {
         if self.is_done {
             return None;
         }
-        match cut_at(self.rest, b',') {
+        match cut_at(b',', self.rest) {
             Some((piece, rest)) => {
                 self.rest = rest;
                 Some(piece)

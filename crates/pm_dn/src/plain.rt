@@ -1,19 +1,20 @@
 //! The definitions once more, slowly and plainly: what `Dn::check` and `Tree::subtree` are compared with.
 ghost use Rattle.std.specs.Prelude.{◌≡◌, ◌<◌, length, map, IfOk};
-ghost use Rattle.pm_dn.specs.Name.{part_of, pieces};
+ghost use Rattle.pm_base.specs.Pieces.{pieces_of};
+ghost use Rattle.pm_dn.specs.Name.{part_of};
 ghost use Rattle.pm_dn.specs.Refusal.{name_refusal};
 ghost use Rattle.pm_dn.specs.Tree.{part_eq, is_under, subtree_of};
 
 use crate::containment::class_word;
 use crate::error::DnError;
-use crate::pieces::{Pieces, cut_at};
+use crate::pieces::{Pieces, class_and_id};
 use crate::refusal::part_refusal;
 use crate::tree::Tree;
 use std::alloc::{AllocError, Global};
 
 /// What stands between the commas, in one list.
 fn pieces_of(alloc: Global, bytes: &[u8]) -> Result<Vec<&[u8]>, AllocError>
-    ensures { IfOk result (λ list. map (λ piece. piece.now) list.items ≡ pieces bytes.now) }
+    ensures { IfOk result (λ list. map (λ piece. piece.now) list.items ≡ pieces_of 44 bytes.now) }
 {
     bytes.split(|byte| *byte == b',').collect(alloc)
 }
@@ -41,7 +42,7 @@ pub fn name_refusal(alloc: Global, bytes: &[u8]) -> Result<Option<DnError>, Allo
 fn id_word(piece: &[u8]) -> &[u8]
     ensures { result.now ≡ (part_of piece.now).id }
 {
-    match cut_at(piece, b'=') {
+    match class_and_id(piece) {
         Some((_, id)) => id,
         None => &[],
     }

@@ -5,7 +5,7 @@ ghost use Rattle.std.specs.Char.{is_ascii_alphanumeric};
 ghost use Rattle.pm_dn.specs.Refusal.{part_refusal, name_refusal, is_of_class_alphabet, is_of_id_alphabet};
 
 use crate::error::DnError;
-use crate::pieces::{Pieces, cut_at};
+use crate::pieces::{Pieces, class_and_id};
 
 /// The most bytes of a name.
 pub const NAME_BYTES: usize = 256;
@@ -43,7 +43,7 @@ pub(crate) fn part_refusal(piece: &[u8]) -> Option<DnError>
     if piece.is_empty() {
         return Some(DnError::N1);
     }
-    let Some((class, id)) = cut_at(piece, b'=') else {
+    let Some((class, id)) = class_and_id(piece) else {
         return Some(DnError::N2);
     };
     if class.is_empty() || id.is_empty() {

@@ -1,12 +1,14 @@
 -- The words of a line of events, cut off one by one.
-use Rattle.std.proofs.Common.{◌≡◌, ◌≢◌, ◌+◌, ◌<◌, ℕ, zero, suc, Bool, true, false, cond, List, [], ◌∷◌, ◌++◌, Option, None, length, take, get_or, refl, sym, ◌∙◌, ap, subst, nat_le, arith, append_assoc, length-append}
+use Rattle.std.proofs.Common.{◌≡◌, ◌≢◌, ◌+◌, ℕ, zero, suc, Bool, true, false, cond, List, [], ◌∷◌, ◌++◌, Option, None, length, take, get_or, refl, sym, ◌∙◌, ap, subst, nat_le, arith, append_assoc, length-append}
 use Rattle.std.proofs.Math.Dec.{eqb}
 use Rattle.std.proofs.lemmas.Bool.{eq-eqb}
 use Rattle.std.proofs.lemmas.List.{take_at}
 use Rattle.std.proofs.lemmas.List.Splits.{join_with_byte-slice_split}
 use Rattle.std.specs.List.{All, slice_split, onto_first, join_with_byte}
 use Rattle.pm_base.proofs.PiecesLemmas.{some_piece}
-use Rattle.pm_model.specs.EventLine.{words_of, event_line, event_of_words, AreNames}
+use Rattle.pm_base.specs.Line.{MOST_LINE}
+use Rattle.pm_base.specs.Pieces.{words_of}
+use Rattle.pm_model.specs.EventLine.{event_line, event_of_words, AreNames}
 
 -- either way it is none
 none_anyway : {A : Type 0} (b : Bool) (x : Option A) → x ≡ None → cond b x None ≡ None
@@ -19,7 +21,7 @@ five_words line moment rest object further metric value fourth behind first seco
     let some = some_piece 32 behind in
     let words : words_of line ≡ moment ∷ object ∷ metric ∷ fourth ∷ some.0 ∷ some.1 =
     first ∙ ap (λ (l : List (List ℕ)). moment ∷ l) (second ∙ ap (λ (l : List (List ℕ)). object ∷ l) (third ∙ ap (λ (l : List (List ℕ)). metric ∷ l) (last ∙ ap (λ (l : List (List ℕ)). fourth ∷ l) some.2))) in
-    none_anyway (nat_le (length line) 2048) (event_of_words (words_of line)) (ap event_of_words words)
+    none_anyway (nat_le (length line) MOST_LINE) (event_of_words (words_of line)) (ap event_of_words words)
 
 -- A word that is cut off, and what follows it.
 pub cut_off : (text word rest : List ℕ) → words_of text ≡ word ∷ words_of rest → text ≡ word ++ 32 ∷ rest

@@ -8,6 +8,7 @@ pub mod ReadingLemmas
 pub mod SlotTableLemmas
 pub mod SlotNamesLemmas
 pub mod SameNamesLemmas
+pub mod EventSlotLemmas
 pub mod TickLemmas
 pub mod HistoryLemmas
 pub mod StayLemmas

@@ -7,6 +7,8 @@ use Rattle.std.proofs.lemmas.Slice.Eq.{bytes_eq-Decides}
 use Rattle.pm_base.specs.Class.{class_name}
 use Rattle.pm_base.specs.declared.class.Class.{Class}
 use Rattle.pm_base.specs.declared.class.Class.TheVariants.{ManagedElement, GnbCuCp, NrCellCu, GnbDu, NrCellDu}
+use Rattle.pm_base.specs.Line.{MOST_LINE}
+use Rattle.pm_base.specs.Pieces.{words_of}
 use Rattle.pm_base.specs.declared.code.Code.{Code}
 use Rattle.pm_dn.specs.Tree.{add_refusal}
 use Rattle.pm_meas.specs.declared.kind.Kind.{Kind}
@@ -16,7 +18,6 @@ use Rattle.pm_meas.specs.declared.kind.Reduce.TheVariants.{Sum, Mean, Max, Min}
 use Rattle.pm_meas.specs.declared.def.Def.{Def}
 use Rattle.pm_meas.specs.declared.error.MeasError.{MeasError}
 use Rattle.pm_meas.specs.declared.error.MeasError.TheVariants as meas
-use Rattle.pm_base.specs.Pieces.{words_of}
 use Rattle.pm_meas.specs.Def.{ReadAs, IsKind, kind_word, reduce_word, number_words, def_words}
 use Rattle.pm_meas.specs.Catalogue.{Adds, Breaks}
 use Rattle.pm_meas.proofs.BreaksLemmas.{Breaks-one, Breaks-Memory}
@@ -167,7 +168,7 @@ RefusesEnd-one old c d (inl r) (inr s) = absurd (r.1 s.1)
 RefusesEnd-one old c d (inr r) (inl s) = absurd (s.1 r.1)
 RefusesEnd-one old c d (inr r) (inr s) = r.0 ∙ sym s.0
 
-pub end-short : (line : List ℕ) → line ≡ end_line → 2048 < length line → ⊥
+pub end-short : (line : List ℕ) → line ≡ end_line → MOST_LINE < length line → ⊥
 end-short line end long = let three : length line ≡ 3 = ap length end in omega (arith, three, long)
 
 -- A line is refused by one code.

@@ -1,7 +1,7 @@
 -- How far the reading of an inventory has come, and how it ends.
 use Rattle.std.proofs.Common.{◌≡◌, ◌≢◌, ◌+◌, ◌<◌, ℕ, List, [], ◌∷◌, ◌++◌, length, take, Result, Ok, Err, inl, inr, refl, sym, ◌∙◌, ap, subst, arith, length-append}
 use Rattle.std.proofs.lemmas.List.{append-nil}
-use Rattle.pm_base.specs.Line.{lines_of, HasNoLineFeed}
+use Rattle.pm_base.specs.Line.{MOST_LINE, lines_of, HasNoLineFeed}
 use Rattle.pm_base.specs.Feed.{IsFirstLine}
 use Rattle.pm_base.specs.declared.code.Code.{Code}
 use Rattle.pm_base.specs.declared.code.Code.TheVariants.{I1, I2}
@@ -47,10 +47,10 @@ refused_at before middle rest line state many code so_far is refused = inl (reco
   numbered = ap (λ (n : ℕ). n + 1) so_far.counted;
 })
 
--- The next line has over 2,048 bytes.
-pub read-long : (before middle : List ℕ) (state : InventoryState) (many : ℕ) → IsReadSoFar before middle state many → 2048 < length middle → HasNoLineFeed (take 2049 middle) → IsInventoryRefusal (lines_of before) (many + 1) I1
+-- The next line is too long.
+pub read-long : (before middle : List ℕ) (state : InventoryState) (many : ℕ) → IsReadSoFar before middle state many → MOST_LINE < length middle → HasNoLineFeed (take (MOST_LINE + 1) middle) → IsInventoryRefusal (lines_of before) (many + 1) I1
 read-long before middle state many so_far long none =
-    let parts = lines_of-long 2049 middle (omega arith) (omega (arith, long)) none in
+    let parts = lines_of-long (MOST_LINE + 1) middle (omega arith) (omega (arith, long)) none in
     refused_at before middle parts.1 parts.0 state many I1 so_far parts.2 (inl (omega (arith, parts.3), refl))
 
 -- No line is left.

@@ -31,11 +31,11 @@ first-place t j (suc i) (x ∷ xs) d lt is none =
     ∙ ap (λ (n : ℕ). Some n) shift
 
 -- what stands at the place of the first that passes
-record PassesAt {K : Type 0} (t : K → Bool) (j v : ℕ) (xs : List K) (d : K) : Type 0 where
-  at : ℕ
-  at_is : v ≡ j + at
-  within : at < length xs
-  passes : t (get_or xs at d) ≡ true
+pub record PassesAt {K : Type 0} (t : K → Bool) (j v : ℕ) (xs : List K) (d : K) : Type 0 where
+  pub at : ℕ
+  pub at_is : v ≡ j + at
+  pub within : at < length xs
+  pub passes : t (get_or xs at d) ≡ true
 
 passes-step : {K : Type 0} (t : K → Bool) (j v : ℕ) (x : K) (xs : List K) (d : K) (b : Bool) → t x ≡ b → cond b (Some j) (position_from t (j + 1) xs) ≡ Some v → (position_from t (j + 1) xs ≡ Some v → PassesAt t (j + 1) v xs d) → PassesAt t j v (x ∷ xs) d
 passes-step t j v x xs d true is place later = let same : j ≡ v = cc in record { at = 0; at_is = omega (arith, same); within = omega arith; passes = is }
@@ -43,12 +43,12 @@ passes-step t j v x xs d false is place later =
     let rest = later place in
     record { at = suc rest.at; at_is = omega (arith, rest.at_is); within = omega (arith, rest.within); passes = rest.passes }
 
-place-passes : {K : Type 0} (t : K → Bool) (j v : ℕ) (xs : List K) (d : K) → position_from t j xs ≡ Some v → PassesAt t j v xs d
+pub place-passes : {K : Type 0} (t : K → Bool) (j v : ℕ) (xs : List K) (d : K) → position_from t j xs ≡ Some v → PassesAt t j v xs d
 place-passes t j v [] d place = cc
 place-passes t j v (x ∷ xs) d place = passes-step t j v x xs d (t x) refl place (λ rest. place-passes t (j + 1) v xs d rest)
 
 -- the place of a text among distinct ones
-distinct-place : (texts : List (List ℕ)) (i : ℕ) (text : List ℕ) → AllPairs (λ a b. a ≢ b) texts → i < length texts → get_or texts i [] ≡ text → position_from (λ t. bytes_eq t text) 0 texts ≡ Some i
+pub distinct-place : (texts : List (List ℕ)) (i : ℕ) (text : List ℕ) → AllPairs (λ a b. a ≢ b) texts → i < length texts → get_or texts i [] ≡ text → position_from (λ t. bytes_eq t text) 0 texts ≡ Some i
 distinct-place texts i text distinct lt is =
     let same : 0 + i ≡ i = omega arith in
     first-place (λ t. bytes_eq t text) 0 i texts [] lt ((bytes_eq-Decides (get_or texts i []) text).1 is)
@@ -64,7 +64,7 @@ place-text texts i text place =
       ap (λ (k : ℕ). get_or texts k []) (sym same) ∙ (bytes_eq-Decides (get_or texts found.at []) text).0 found.passes,
     )
 
-position_from-map : {A B : Type 0} (t : B → Bool) (f : A → B) (j : ℕ) (xs : List A) → position_from t j (map f xs) ≡ position_from (λ x. t (f x)) j xs
+pub position_from-map : {A B : Type 0} (t : B → Bool) (f : A → B) (j : ℕ) (xs : List A) → position_from t j (map f xs) ≡ position_from (λ x. t (f x)) j xs
 position_from-map t f j [] = refl
 position_from-map t f j (x ∷ xs) = ap (λ (r : Option ℕ). cond (t (f x)) (Some j) r) (position_from-map t f (j + 1) xs)
 

@@ -1,6 +1,7 @@
 -- Lines of events, of the form `MOMENT LDN METRIC VALUE` (this project's own).
 use Rattle.std.specs.Prelude.{◌≡◌, ◌≢◌, ◌&&◌, ◌++◌, ℕ, All, List, [], ◌∷◌, length, nat_le, Option, Some, None, if◌then◌else◌}
-use Rattle.pm_base.specs.Pieces.{pieces_of}
+use Rattle.pm_base.specs.Line.{MOST_LINE}
+use Rattle.pm_base.specs.Pieces.{words_of}
 use Rattle.pm_base.specs.Number.{is_number, is_moment, number_of}
 
 -- What a line of events says.
@@ -10,10 +11,6 @@ pub record LineEvent : Type 0 where
   pub metric : List ℕ
   pub value : ℕ
 
--- The words of a line. Each single space parts two.
-abbrev pub words_of : List ℕ → List (List ℕ)
-words_of line = pieces_of 32 line
-
 -- What four words say: a moment of 1 to 12 digits, two names, and a number of 1 to 10 digits.
 abbrev pub event_of_words : List (List ℕ) → Option LineEvent
 event_of_words (moment ∷ object ∷ metric ∷ value ∷ []) =
@@ -22,9 +19,9 @@ event_of_words (moment ∷ object ∷ metric ∷ value ∷ []) =
     else None
 event_of_words _ = None
 
--- What a line of at most 2,048 bytes says; none where it hasn't the form.
+-- What a line of at most `MOST_LINE` bytes says; none where it hasn't the form.
 abbrev pub event_line : List ℕ → Option LineEvent
-event_line line = if nat_le (length line) 2048 then event_of_words (words_of line) else None
+event_line line = if nat_le (length line) MOST_LINE then event_of_words (words_of line) else None
 
 -- The names of an object and a metric, and both with the space between. That of the object has none.
 pub record AreNames (object metric names : List ℕ) : Type 0 where

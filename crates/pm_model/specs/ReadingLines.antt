@@ -1,6 +1,6 @@
 -- The lines of an inventory up to its `end`, and the first line that is refused (this project's own).
 use Rattle.std.specs.Prelude.{◌≡◌, ◌≢◌, ◌⊎◌, ◌+◌, ◌<◌, ◌≤◌, ◌++◌, ℕ, List, [], ◌∷◌, length, Result, Ok, Err}
-use Rattle.pm_base.specs.Line.{lines_of}
+use Rattle.pm_base.specs.Line.{MOST_LINE, lines_of}
 use Rattle.pm_base.specs.declared.code.Code.{Code}
 use Rattle.pm_base.specs.declared.code.Code.TheVariants.{I1, I2, M5, N10}
 use Rattle.pm_model.specs.WholeLines.{TakesLines}
@@ -17,9 +17,9 @@ use Rattle.pm_model.specs.declared.reading.InventoryError.TheVariants as error
 abbrev pub empty_inventory : InventoryState
 empty_inventory = record { objects = []; measures = [] }
 
--- A line of at most 2,048 bytes adds to the state.
+-- A line of at most `MOST_LINE` bytes adds to the state.
 pub record AddsShort (old : InventoryState) (line : List ℕ) (new : InventoryState) : Type 0 where
-  pub short : length line ≤ 2048
+  pub short : length line ≤ MOST_LINE
   pub adds : AddsLine old line new
 
 -- Lines add to a state, one after the other.
@@ -46,12 +46,12 @@ RefusesEnd state code =
     ((code ≡ N10) × ¬ HasRoot state.objects)
     ⊎ ((code ≡ M5) × HasRoot state.objects × ¬ HasSlots state.objects state.measures)
 
--- Why a line is refused behind as many others, which made this state: I1 for over 2,048 bytes, else by what it says.
+-- Why a line is refused behind as many others, which made this state: I1 for over `MOST_LINE` bytes, else by what it says.
 abbrev pub RefusesNext : ℕ → InventoryState → List ℕ → Code → Type 0
 RefusesNext many state line code =
-    ((2048 < length line) × (code ≡ I1))
+    ((MOST_LINE < length line) × (code ≡ I1))
     ⊎ (((0 < many) × (line ≡ end_line) × RefusesEnd state code)
-    ⊎ ((length line ≤ 2048) × (line ≢ end_line) × RefusesLine state line (stop.Refused code)))
+    ⊎ ((length line ≤ MOST_LINE) × (line ≢ end_line) × RefusesLine state line (stop.Refused code)))
 
 -- The first lines of the bytes before, as many as that, are good and made this state, and the bytes after are left.
 pub record IsReadSoFar (before after : List ℕ) (state : InventoryState) (many : ℕ) : Type 0 where

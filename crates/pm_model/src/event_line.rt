@@ -1,8 +1,8 @@
 //! The reading of a line of events.
 ghost use Rattle.std.specs.Prelude.{◌≡◌, ◌∷◌, [], length, MatchOption, IfSome, Some, None};
-ghost use Rattle.pm_model.specs.EventLine.{words_of, event_line, event_of_words, AreNames};
+ghost use Rattle.pm_model.specs.EventLine.{event_line, event_of_words, AreNames};
 
-use pm_base::{cut_at, read_moment, read_number};
+use pm_base::{MOST_LINE, cut_at, read_moment, read_number};
 
 /// What a line of events says. Whether its names are those of a slot, and its value is in range, isn't looked at.
 #[derive(Clone, Copy, Debug)]
@@ -19,16 +19,13 @@ pub struct EventLine<'a> {
     pub value: u64,
 }
 
-// The longest line of events, in bytes.
-const LONGEST_LINE: usize = 2_048;
-
 /// Reads a line `MOMENT LDN METRIC VALUE`, its line feed left out and single spaces between its words; none where it
 /// hasn't this form, or has over 2,048 bytes. The form is this project's own.
 pub fn read_event_line(line: &[u8]) -> Option<EventLine<'_>>
     ensures event { MatchOption result (event_line line.now ≡ None) (λ e. event_line line.now ≡ Some (record { moment = e.moment; object = e.object.now; metric = e.metric.now; value = e.value })) }
     ensures names { IfSome result (λ e. AreNames e.object.now e.metric.now e.names.now) }
 {
-    if line.len() > LONGEST_LINE {
+    if line.len() > MOST_LINE {
         return None;
     }
     let (moment, rest) = cut_at(b' ', line)?;

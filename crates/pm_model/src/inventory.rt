@@ -1,9 +1,11 @@
 //! The inventory of a base station, and the numbers of its slots.
-ghost use Rattle.std.specs.Prelude.{◌≡◌, ◌<◌, ◌≤◌, ◌↔◌, ◌+◌, ◌*◌, [], length, take, IfOk, IfSome, Err, slice_index_or};
+ghost use Rattle.std.specs.Prelude.{◌≡◌, ◌<◌, ◌≤◌, ◌↔◌, ◌+◌, ◌*◌, [], length, take, IfOk, IfSome, Some, Err, slice_get, slice_index_or};
 ghost use Rattle.pm_dn.specs.Containment.{has_path_to};
 ghost use Rattle.std.specs.List.{list_any};
 ghost use Rattle.pm_dn.specs.Tree.{is_root, objects_of};
+ghost use Rattle.pm_meas.specs.declared.def.Def.{Def};
 ghost use Rattle.pm_model.specs.Inventory.{HasRoot, HasSlots, slots_of, slots, slot_number, inventory_text};
+ghost use Rattle.pm_model.specs.Slot.{slot_place, event_slots};
 ghost use Rattle.pm_model.specs.Default.{IsDefault};
 ghost use Rattle.pm_model.specs.InventoryFields.{AreFirst, ArePlaces};
 
@@ -112,6 +114,9 @@ impl Inventory {
     pub fn slot(&self, object: u16, metric: u8) -> Option<u16>
         ensures number { result ≡ slot_number self.now object metric }
         ensures within { IfSome result (λ slot. slot < length (slots self.now)) }
+
+        // Among the slots that lines of events name it is the place of that with the names of the object and the metric.
+        ensures named { IfSome result (λ slot. (def : Def) → slice_get self.now.measures metric ≡ Some def → slot_place (event_slots self.now) (slice_index_or self.now.objects object []) def.name ≡ Some slot) }
     {
         if object >= self.tree.len() || metric >= self.catalogue.len() {
             return None;

@@ -3,14 +3,15 @@ use Rattle.std.proofs.Common.{◌≡◌, ◌+◌, ◌-◌, ◌<◌, ◌≤◌, �
 use Rattle.std.proofs.lemmas.List.{append-nil}
 use Rattle.std.proofs.lemmas.Bool.{lt-leb}
 use Rattle.std.proofs.Math.Seq.{take-append-add}
-use Rattle.pm_base.specs.Line.{HasNoLineFeed, HasNoLine, lines_of}
+use Rattle.pm_base.specs.Line.{MOST_LINE, HasNoLineFeed, HasNoLine, lines_of}
+use Rattle.pm_base.specs.Pieces.{words_of}
 use Rattle.pm_base.specs.declared.code.Code.{Code}
 use Rattle.pm_base.specs.declared.code.Code.TheVariants.{E1, Z1}
 use Rattle.pm_base.proofs.LinesLemmas.{lines_of-long, lines_of-last, lines_of-first}
 use Rattle.pm_model.specs.Slot.{Slot}
 use Rattle.pm_model.specs.Inventory.{text_of_lines}
 use Rattle.pm_model.specs.WholeLines.{whole_lines}
-use Rattle.pm_model.specs.EventLine.{LineEvent, event_line, event_of_words, words_of}
+use Rattle.pm_model.specs.EventLine.{LineEvent, event_line, event_of_words}
 use Rattle.pm_base.specs.Moment.{tick_of}
 use Rattle.pm_top.proofs.TallyLemmas.{all_lines-ended}
 use Rattle.pm_model.specs.Event.{last_moment, events_of, event_of, refusal, refusal_of}
@@ -51,15 +52,15 @@ end-refused slots first given all left counting place IsTold old new line rest n
       λ told. kept told ∙ progress.written told ∙ ap (λ (l : List ℕ). old ++ l) (sym (text-refused slots (lines_of all) good good_is fewer)),
     )
 
--- A line of over 2,048 bytes hasn't the form of an event.
-long_refused : (slots : List Slot) (events : List Event) (line : List ℕ) → 2048 < length line → refusal slots events line ≡ Some E1
+-- A line that is too long hasn't the form of an event.
+long_refused : (slots : List Slot) (events : List Event) (line : List ℕ) → MOST_LINE < length line → refusal slots events line ≡ Some E1
 long_refused slots events line long =
-    let none : event_line line ≡ None = ap (λ (b : Bool). cond b (event_of_words (words_of line)) None) (lt-leb (length line) 2048 long) in
+    let none : event_line line ≡ None = ap (λ (b : Bool). cond b (event_of_words (words_of line)) None) (lt-leb (length line) MOST_LINE long) in
     ap (λ (e : Option LineEvent). refusal_of slots events (event_of slots e)) none
 
-pub end-long : (slots : List Slot) (first given : ℕ) (all left : List ℕ) (counting : Counting) (place : ℕ) (IsTold : Type 0) (old new rest now : List ℕ) → Progress slots first all left counting place IsTold old new → 2048 < length left → HasNoLineFeed (take 2049 left) → (IsTold → now ≡ new) → IsTallied slots first given all rest IsTold old now (BadInput place E1)
+pub end-long : (slots : List Slot) (first given : ℕ) (all left : List ℕ) (counting : Counting) (place : ℕ) (IsTold : Type 0) (old new rest now : List ℕ) → Progress slots first all left counting place IsTold old new → MOST_LINE < length left → HasNoLineFeed (take (MOST_LINE + 1) left) → (IsTold → now ≡ new) → IsTallied slots first given all rest IsTold old now (BadInput place E1)
 end-long slots first given all left counting place IsTold old new rest now progress long none kept =
-    let parts = lines_of-long 2049 left (omega arith) (omega (arith, long)) none in
+    let parts = lines_of-long (MOST_LINE + 1) left (omega arith) (omega (arith, long)) none in
     end-refused slots first given all left counting place IsTold old new parts.0 rest now parts.1 E1 progress parts.2 (long_refused slots (events_of slots progress.good) parts.0 (omega (arith, parts.3))) kept
 
 -- What was read is good, and what it ended is written.

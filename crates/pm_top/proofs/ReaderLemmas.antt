@@ -10,9 +10,11 @@ use Rattle.std.proofs.lemmas.Bool.Decides.{nat_tests}
 use Rattle.std.proofs.lemmas.List.{take-append-drop, take_all, length-drop, drop_more}
 use Rattle.std.specs.List.{list_all, onto_first, join_with_byte, position_from}
 use Rattle.std.specs.Char.{is_ascii_digit}
+use Rattle.pm_base.specs.Line.{MOST_LINE}
 use Rattle.pm_base.specs.Number.{is_number, is_moment, number_of}
+use Rattle.pm_base.specs.Pieces.{words_of}
 use Rattle.pm_model.specs.Slot.{Slot, slot_place}
-use Rattle.pm_model.specs.EventLine.{LineEvent, words_of, event_line, event_of_words}
+use Rattle.pm_model.specs.EventLine.{LineEvent, event_line, event_of_words}
 use Rattle.pm_model.specs.Event.{event_of, event_in_slot, read_event}
 use Rattle.pm_model.specs.SlotNames.{slot_names, names_place, HasNoSpace, IsWord, AreWords}
 use Rattle.std.proofs.lemmas.List.Folds.{list_all_more}
@@ -86,8 +88,8 @@ line-says word words object behind metric digits moment short first second last 
     let four : words_of line ≡ word ∷ object ∷ metric ∷ digits ∷ [] =
     word-first word words (digits-lack-space word (moment-digits word moment))
     ∙ ap (λ (l : List (List ℕ)). word ∷ l) (first ∙ ap (λ (l : List (List ℕ)). object ∷ l) (second ∙ ap (λ (l : List (List ℕ)). metric ∷ l) last)) in
-    let fits : length line ≤ 2048 = omega (arith, short, moment-short word moment, length-append word (32 ∷ words)) in
-    cond-true (nat_le (length line) 2048) (event_of_words (words_of line)) None (le-leb (length line) 2048 fits)
+    let fits : length line ≤ MOST_LINE = omega (arith, short, moment-short word moment, length-append word (32 ∷ words)) in
+    cond-true (nat_le (length line) MOST_LINE) (event_of_words (words_of line)) None (le-leb (length line) MOST_LINE fits)
     ∙ ap event_of_words four
     ∙ words-say word object metric digits moment value object-some metric-some
 

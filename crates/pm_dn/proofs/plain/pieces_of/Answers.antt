@@ -1,7 +1,7 @@
 use Rattle.std.proofs.Common.{rules}
 use Rattle.std.proofs.lemmas.Iterator.Consumers.{map_from_collect}
 use Rattle.std.proofs.lemmas.Iterator.Splits.{YieldsList-from_slice_split}
-use Rattle.pm_dn.specs.Name.{is_comma}
+use Rattle.pm_dn.proofs.PieceLemmas.{is_comma}
 use Rattle.pm_dn.proofs.plain.pieces_of.Goals as goal
 
 pub returns : goal.returns

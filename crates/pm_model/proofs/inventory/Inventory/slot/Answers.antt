@@ -1,6 +1,10 @@
-use Rattle.std.proofs.Common.{◌≡◌, ◌<◌, ◌+◌, ◌∙◌, false, true, length, sym, ap, arith, rules}
+use Rattle.std.proofs.Common.{◌≡◌, ◌≢◌, ◌<◌, ◌+◌, ◌∙◌, false, true, length, sym, ap, subst, arith, rules}
+use Rattle.std.specs.List.{AllPairs}
+use Rattle.pm_dn.specs.Tree.{IsTree}
+use Rattle.pm_meas.specs.Catalogue.{names_of}
 use Rattle.pm_model.specs.Inventory.{InventoryState, slots, slots_of, slot_number, is_slot_of}
 use Rattle.pm_model.proofs.SlotLemmas.{position-within, slots-past, slots-none, slot-of_no_object, slot-kept}
+use Rattle.pm_model.proofs.EventSlotLemmas.{slot_place-number}
 use Rattle.pm_model.proofs.inventory.Inventory.slot.Goals as goal
 use Rattle.pm_model.proofs.inventory.Inventory.slot.Goals.{then-object-len-via-then-object-len, then-object-len-via-else-object-len+then-metric-len}
 
@@ -42,3 +46,9 @@ returns-clause-within c =
     let kept = slot-kept c.self.inside.tree c.self.inside.catalogue c.self.inside.first.items c.self.inside.places.items c.args.object c.args.metric c.index.result.now c.index-2.result.now c.def.result.now c.self.invariant.first c.self.invariant.places object_within c.def.ensures (sym c.has_class.ensures ∙ its) c.index.ensures c.index-2.ensures in
     let within = position-within (is_slot_of c.args.object c.args.metric) 0 (c.index.result.now + c.index-2.result.now) (slots_of c.self.inside.tree c.self.inside.catalogue) kept in
     omega (arith, within, ap (λ (s : InventoryState). length (slots s)) c.self.view_is)
+
+pub returns-clause-named : goal.returns-clause-named
+returns-clause-named c = λ def is.
+    let tree = subst (λ (s : InventoryState). IsTree s.objects) c.self.view_is c.len.ensures.let_in in
+    let apart = subst (λ (s : InventoryState). AllPairs (λ a b. a ≢ b) (names_of s.measures)) c.self.view_is c.len-else-object-len.ensures.catalogue.distinct in
+    slot_place-number c.args.self.now c.args.object c.args.metric (c.index.result.now + c.index-2.result.now) def tree apart (sym (returns-clause-number c)) is
