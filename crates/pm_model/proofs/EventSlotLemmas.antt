@@ -1,6 +1,6 @@
 -- The number of a slot is its place among the slots that lines of events name.
-use Rattle.std.proofs.Common.{◌≡◌, ◌≢◌, ◌+◌, ◌<◌, ℕ, suc, Bool, true, false, List, [], ◌∷◌, ◌++◌, ◌&&◌, length, map, get_or, Some, refl, sym, ◌∙◌, ap, arith}
-use Rattle.std.specs.List.{AllPairs, flat_map, slice_get}
+use Rattle.std.proofs.Common.{◌≡◌, ◌+◌, ◌<◌, ℕ, suc, Bool, true, false, List, [], ◌∷◌, ◌++◌, ◌&&◌, length, map, get_or, Some, refl, sym, ◌∙◌, ap, arith}
+use Rattle.std.specs.List.{flat_map, slice_get}
 use Rattle.std.specs.Option.{option_map}
 use Rattle.std.specs.Str.{bytes_eq}
 use Rattle.std.proofs.Math.Dec.{eqb}
@@ -9,13 +9,13 @@ use Rattle.std.proofs.lemmas.Option.{get_or_from_slice_get, slice_get_within, sl
 use Rattle.std.proofs.lemmas.List.{length-map, map-append, get_or-map, get_or_default}
 use Rattle.pm_dn.specs.Tree.{IsTree, objects_of}
 use Rattle.pm_meas.specs.declared.def.Def.{Def}
-use Rattle.pm_meas.specs.Catalogue.{names_of}
+use Rattle.pm_meas.specs.Catalogue.{IsCatalogue}
 use Rattle.pm_model.specs.Inventory.{InventoryState, SlotKey, key_of, slots_of_metric, slots, slot_number, is_slot_of}
 use Rattle.pm_model.specs.Slot.{Slot, slot_place, slot_of, slots_of_def, event_slots}
 use Rattle.pm_model.specs.SlotNames.{slot_names}
 use Rattle.pm_model.proofs.SlotLemmas.{slots_from}
 use Rattle.pm_model.proofs.SlotTableLemmas.{place-passes, distinct-place, position_from-map}
-use Rattle.pm_model.proofs.SlotNamesLemmas.{object-lacks-space, slots-apart, slots-spaceless, slot_place-names}
+use Rattle.pm_model.proofs.SlotNamesLemmas.{object-lacks-space, slots-apart, slots-words, slot_place-names}
 
 -- the slot of a key, where the metrics have these definitions
 abbrev slot_of_key : List (List ℕ) → (ℕ → Def) → SlotKey → Slot
@@ -64,13 +64,13 @@ slot-at_number inventory object metric slot def number is =
     ∙ ap (λ (d : Def). Some (slot_of objects d object)) (get_or_from_slice_get inventory.measures metric def def is)
 
 -- The names of an object and a metric are found at the number of their slot.
-pub slot_place-number : (inventory : InventoryState) (object metric slot : ℕ) (def : Def) → IsTree inventory.objects → AllPairs (λ a b. a ≢ b) (names_of inventory.measures) → slot_number inventory object metric ≡ Some slot → slice_get inventory.measures metric ≡ Some def → slot_place (event_slots inventory) (get_or inventory.objects object []) def.name ≡ Some slot
-slot_place-number inventory object metric slot def tree apart number is =
+pub slot_place-number : (inventory : InventoryState) (object metric slot : ℕ) (def : Def) → IsTree inventory.objects → IsCatalogue inventory.measures → slot_number inventory object metric ≡ Some slot → slice_get inventory.measures metric ≡ Some def → slot_place (event_slots inventory) (get_or inventory.objects object []) def.name ≡ Some slot
+slot_place-number inventory object metric slot def tree catalogue number is =
     let all = event_slots inventory in
     let its = slot_of inventory.objects def object in
     let at = slot-at_number inventory object metric slot def number is in
     let within : slot < length all = slice_get_within all slot its at in
     let named : get_or (map slot_names all) slot [] ≡ slot_names its = get_or-map slot_names all slot its [] within ∙ ap slot_names (get_or_from_slice_get all slot its its at) in
-    slot_place-names all its.object def.name (slots-spaceless inventory.objects inventory.measures tree) (object-lacks-space inventory.objects object tree)
+    slot_place-names all its.object def.name (slots-words inventory.objects inventory.measures tree catalogue.permitted) (object-lacks-space inventory.objects object tree)
     ∙ sym (position_from-map (λ t. bytes_eq t (slot_names its)) slot_names 0 all)
-    ∙ distinct-place (map slot_names all) slot (slot_names its) (slots-apart inventory.objects inventory.measures tree apart) (omega (arith, within, length-map all slot_names)) named
+    ∙ distinct-place (map slot_names all) slot (slot_names its) (slots-apart inventory.objects inventory.measures tree catalogue.distinct) (omega (arith, within, length-map all slot_names)) named

@@ -1,14 +1,13 @@
 -- A line of events that begins with the word of a known moment.
-use Rattle.std.proofs.Common.{get_or, ◌≡◌, ◌≢◌, ◌+◌, ◌-◌, ◌<◌, ◌≤◌, ℕ, zero, suc, Bool, true, false, cond, List, [], ◌∷◌, ◌++◌, ◌&&◌, Some, None, Ok, length, take, drop, refl, sym, ◌∙◌, ap, subst, arith, append_assoc, length-append, nat_le}
+use Rattle.std.proofs.Common.{get_or, ◌≡◌, ◌≢◌, ◌+◌, ◌-◌, ◌<◌, ◌≤◌, ℕ, Bool, true, false, cond, List, [], ◌∷◌, ◌++◌, ◌&&◌, Some, None, Ok, length, take, drop, refl, sym, ◌∙◌, ap, arith, append_assoc, length-append, nat_le}
 use Rattle.std.proofs.Math.Dec.{eqb}
 use Rattle.std.proofs.lemmas.Bool.{cond-true, le-leb, leb-true, ne_eqb, eq-eqb}
 use Rattle.std.proofs.lemmas.List.Elements.{All-cons, All-head, All-tail, All-nil}
-use Rattle.std.proofs.lemmas.List.Splits.{join_with_byte-slice_split}
 use Rattle.std.proofs.lemmas.Slice.Eq.{bytes_eq-Decides}
 use Rattle.std.specs.Str.{bytes_eq}
 use Rattle.std.proofs.lemmas.Bool.Decides.{nat_tests}
 use Rattle.std.proofs.lemmas.List.{take-append-drop, take_all, length-drop, drop_more}
-use Rattle.std.specs.List.{list_all, onto_first, join_with_byte, position_from}
+use Rattle.std.specs.List.{list_all, onto_first, position_from}
 use Rattle.std.specs.Char.{is_ascii_digit}
 use Rattle.pm_base.specs.Line.{MOST_LINE}
 use Rattle.pm_base.specs.Number.{is_number, is_moment, number_of}
@@ -17,9 +16,6 @@ use Rattle.pm_model.specs.Slot.{Slot, slot_place}
 use Rattle.pm_model.specs.EventLine.{LineEvent, event_line, event_of_words}
 use Rattle.pm_model.specs.Event.{event_of, event_in_slot, read_event}
 use Rattle.pm_model.specs.SlotNames.{slot_names, names_place, HasNoSpace, IsWord, AreWords}
-use Rattle.std.proofs.lemmas.List.Folds.{list_all_more}
-use Rattle.std.specs.List.{slice_get}
-use Rattle.pm_top.proofs.CountingLemmas.{slice_get-at}
 
 both : (a b : Bool) → a ≡ true → b ≡ true → (a && b) ≡ true
 both a b first second = ap (λ (x : Bool). x && b) first ∙ second

@@ -1,7 +1,6 @@
-use Rattle.std.proofs.Common.{◌≡◌, ◌≢◌, ◌<◌, ◌+◌, ◌∙◌, false, true, length, sym, ap, subst, arith, rules}
-use Rattle.std.specs.List.{AllPairs}
+use Rattle.std.proofs.Common.{◌≡◌, ◌<◌, ◌+◌, ◌∙◌, false, true, length, sym, ap, subst, arith, rules}
 use Rattle.pm_dn.specs.Tree.{IsTree}
-use Rattle.pm_meas.specs.Catalogue.{names_of}
+use Rattle.pm_meas.specs.Catalogue.{IsCatalogue}
 use Rattle.pm_model.specs.Inventory.{InventoryState, slots, slots_of, slot_number, is_slot_of}
 use Rattle.pm_model.proofs.SlotLemmas.{position-within, slots-past, slots-none, slot-of_no_object, slot-kept}
 use Rattle.pm_model.proofs.EventSlotLemmas.{slot_place-number}
@@ -50,5 +49,5 @@ returns-clause-within c =
 pub returns-clause-named : goal.returns-clause-named
 returns-clause-named c = λ def is.
     let tree = subst (λ (s : InventoryState). IsTree s.objects) c.self.view_is c.len.ensures.let_in in
-    let apart = subst (λ (s : InventoryState). AllPairs (λ a b. a ≢ b) (names_of s.measures)) c.self.view_is c.len-else-object-len.ensures.catalogue.distinct in
-    slot_place-number c.args.self.now c.args.object c.args.metric (c.index.result.now + c.index-2.result.now) def tree apart (sym (returns-clause-number c)) is
+    let catalogue = subst (λ (s : InventoryState). IsCatalogue s.measures) c.self.view_is c.len-else-object-len.ensures.catalogue in
+    slot_place-number c.args.self.now c.args.object c.args.metric (c.index.result.now + c.index-2.result.now) def tree catalogue (sym (returns-clause-number c)) is
