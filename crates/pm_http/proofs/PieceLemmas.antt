@@ -81,16 +81,6 @@ still_front old new rest at k size is =
     let same : new ≡ old ++ rest = is ∙ ap (λ (t : List ℕ). t ++ rest) (take_all (at + k) old wide) in
     ap (take at) same ∙ ap (λ (n : ℕ). take n (old ++ rest)) size ∙ take-append_seam old rest
 
--- Where nothing was moved behind the gathered bytes, they stay.
-pub moved-nothing : (old left new rest : List ℕ) (at k : ℕ) → at ≡ length old → new ≡ take at (take (at + k) old ++ rest) → Moves old left new left Limit
-moved-nothing old left new rest at k size is = record {
-  bytes = [];
-  is = refl;
-  grown = is ∙ still_front old (take (at + k) old ++ rest) rest at k size refl ∙ sym (append-nil old);
-  split = refl;
-  ended = λ e. cc (e);
-}
-
 -- The front of bytes without a line feed has none.
 plain_front : (n : ℕ) (front rest : List ℕ) → length front ≤ n → HasNoLineFeed (take n (front ++ rest)) → HasNoLineFeed front
 plain_front n front rest few plain =

@@ -27,7 +27,7 @@ IsPiece Limit bytes = bytes ≡ []
 abbrev pub HasNoSpace : List ℕ → Type 0
 HasNoSpace bytes = All (λ b. b ≢ 32) bytes
 
--- Where the head isn't begun, only empty lines are gathered.
+-- Where the head isn't begun, no gathered byte is a space: they are empty lines.
 abbrev pub IsBegun : Bool → List ℕ → Type 0
 IsBegun begun gathered = begun ≡ false → HasNoSpace gathered
 
