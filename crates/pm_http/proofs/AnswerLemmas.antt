@@ -16,10 +16,10 @@ use Rattle.pm_http.specs.Piece.{IsGathered, IsAnswered}
 use Rattle.pm_http.proofs.HeadLemmas.{never_from_front, never_grows}
 use Rattle.pm_http.proofs.StepLemmas.{reads_all}
 
-other_size : (code : Code) (n : ℕ) → Refused code ≡ Bytes n → ⊥
+pub other_size : (code : Code) (n : ℕ) → Refused code ≡ Bytes n → ⊥
 other_size code n e = cc (e)
 
-same_size : (m n : ℕ) → Bytes m ≡ Bytes n → m ≡ n
+pub same_size : (m n : ℕ) → Bytes m ≡ Bytes n → m ≡ n
 same_size m n e = cc (e)
 
 -- A whole head that breaks a rule.
@@ -59,7 +59,7 @@ answered-Request head body h reads size = λ more inside. elim inside [
     followed more = subst (λ (t : List ℕ). ReadsRequest t h (body ++ more)) (sym (append_assoc head body more)) (ReadsRequest-append head h [] (body ++ more) reads)
 
 -- A head of at most so many bytes stands in the first of them.
-head_in_front : (n : ℕ) (bytes : List ℕ) (h : RequestHead) (rest : List ℕ) → ReadsRequest bytes h rest → length (print_request h) ≤ n
+pub head_in_front : (n : ℕ) (bytes : List ℕ) (h : RequestHead) (rest : List ℕ) → ReadsRequest bytes h rest → length (print_request h) ≤ n
     → ReadsRequest (take n bytes) h (take (n - length (print_request h)) rest)
 head_in_front n bytes h rest reads short =
     let sizes : length (print_request h) + (n - length (print_request h)) ≡ n = omega (arith, short) in

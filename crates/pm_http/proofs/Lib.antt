@@ -12,3 +12,4 @@ pub mod AnswerLemmas
 pub mod LimitLemmas
 pub mod ReadLemmas
 pub mod QueryLemmas
+pub mod StreamLawLemmas

@@ -5,6 +5,7 @@ pub mod Reply
 pub mod Head
 pub mod Fields
 pub mod Stream
+pub mod StreamLaw
 pub mod Piece
 pub mod Query
 pub mod QuerySteps

@@ -85,7 +85,7 @@ MayBeTold bytes _ = ⊥
 
 -- What the bytes from this offset on begin with, and what is left behind it: a request, the end, a refusal, or a request
 -- that is cut short. The cases exclude each other, but that H1 may stand for H2 or a cut where the bytes that are looked at
--- end inside a target.
+-- end inside a target: that is a law, `one_next`.
 abbrev pub IsNext : List ℕ → ℕ → Next → List ℕ → Type 0
 IsNext bytes offset (next.Request request) after = IsFirst bytes request after
 IsNext bytes offset next.End after = (bytes ≡ []) × (after ≡ [])

@@ -10,6 +10,7 @@ mod head_end;
 #[cfg(test)]
 mod head_tests;
 mod kind;
+mod law;
 mod method;
 mod next;
 mod piece;
@@ -34,6 +35,7 @@ mod tests;
 mod trimming;
 
 pub use error::{HttpError, QueryError, ReplyError, RouteError};
+pub use law::one_next;
 pub use next::Next;
 pub use query::{Query, read_query};
 pub use reading::next_request;

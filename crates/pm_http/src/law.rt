@@ -1,0 +1,7 @@
+//! What holds of every stream.
+ghost use Rattle.pm_http.specs.StreamLaw.{OneNext};
+
+/// Bytes go on in one way, but where those that are looked at end inside a target. A law: the call does nothing.
+pub fn one_next()
+    ensures { OneNext }
+{}
