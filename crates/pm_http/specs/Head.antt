@@ -28,9 +28,13 @@ abbrev pub needs_length : List ℕ → Bool
 needs_length method =
     bytes_eq method (codes "PUT") || (bytes_eq method (codes "PATCH") || bytes_eq method (codes "POST"))
 
+-- How many bytes a body has at the most.
+abbrev pub MOST_BODY : ℕ
+MOST_BODY = 16777216
+
 -- The length that digits tell, if it is in the limit.
 abbrev pub size_within : ℕ → BodySize
-size_within size = if nat_le size 16777216 then Bytes size else Refused H3
+size_within size = if nat_le size MOST_BODY then Bytes size else Refused H3
 
 -- The length by the values of the Content-Length fields: of one, 1 to 12 digits; of none, nothing, unless it is needed.
 abbrev pub size_by : Bool → List (List ℕ) → BodySize
@@ -41,7 +45,7 @@ size_by needed (first ∷ second ∷ more) = Refused H7
 -- A length that is told is in the limit.
 abbrev pub IsWithinLimit : BodySize → Type 0
 IsWithinLimit (Refused code) = Unit {0}
-IsWithinLimit (Bytes size) = size ≤ 16777216
+IsWithinLimit (Bytes size) = size ≤ MOST_BODY
 
 -- The length of the body by the method and the fields, or the first rule that they break.
 abbrev pub size_of : List ℕ → List (List ℕ × List ℕ) → BodySize

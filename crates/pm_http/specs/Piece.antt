@@ -12,7 +12,7 @@ use Rattle.pm_http.specs.declared.sight.Sight.{Sight}
 use Rattle.pm_http.specs.declared.sight.Sight.TheVariants as sight
 use Rattle.pm_http.specs.declared.head_end.HeadEnd.{HeadEnd}
 use Rattle.pm_http.specs.declared.head_end.HeadEnd.TheVariants as ends
-use Rattle.pm_http.specs.Stream.{looked_at, HasHead, IsUnfinished, EndsInHead, EndsInRequest, readable}
+use Rattle.pm_http.specs.Stream.{MOST_HEAD, looked_at, HasHead, IsUnfinished, EndsInHead, EndsInRequest, readable}
 
 -- The bytes are an empty line, another line, a part of a line without its end, or nothing.
 abbrev pub IsPiece : Piece → List ℕ → Type 0
@@ -90,7 +90,7 @@ IsSight bytes headers sight.Never = NeverHasRequest bytes
 pub record IsParsed (bytes : List ℕ) (headers : List HeaderSpan) (spans : RequestSpans) : Type 0 where
   pub within : IsRequestWithin bytes headers spans
   pub few : spans.headers ≤ 64
-  pub short : spans.len ≤ 16384
+  pub short : spans.len ≤ MOST_HEAD
 
 -- As many bytes as may be read stand before the limit, and are fewer than a body of this size.
 pub record BodyStops (given : ℕ) (left : List ℕ) (size : ℕ) : Type 0 where
@@ -108,7 +108,7 @@ pub record Grows (all gathered left : List ℕ) (piece : Piece) : Type 0 where
   pub old : List ℕ
   pub bytes : List ℕ
   pub none : HasNoRequest old
-  pub few : length old < 16384
+  pub few : length old < MOST_HEAD
   pub is : IsPiece piece bytes
   pub grown : gathered ≡ old ++ bytes
   pub split : all ≡ gathered ++ left
@@ -120,14 +120,14 @@ pub record IsGathered (all gathered left : List ℕ) (headers : List HeaderSpan)
   pub split : all ≡ gathered ++ left
   pub at : IsRequestAt gathered headers spans head
   pub whole : gathered ≡ print_request head
-  pub short : length gathered ≤ 16384
+  pub short : length gathered ≤ MOST_HEAD
 
 -- How the reading of a head ends.
 abbrev pub EndsHead : List ℕ → List ℕ → List ℕ → List HeaderSpan → HeadEnd → Type 0
 EndsHead all gathered left headers (ends.Whole spans) = IsGathered all gathered left headers spans
 EndsHead all gathered left headers ends.Crowded = (head : RequestHead) × HasHead all head × (64 < length head.fields)
 EndsHead all gathered left headers ends.Never = NeverHasRequest (looked_at all)
-EndsHead all gathered left headers ends.Long = (16384 ≤ length all) × IsUnfinished (looked_at all)
+EndsHead all gathered left headers ends.Long = (MOST_HEAD ≤ length all) × IsUnfinished (looked_at all)
 EndsHead all gathered left headers ends.Short = (0 < length all) × EndsInHead all × (left ≡ [])
 EndsHead all gathered left headers ends.Nothing = (all ≡ []) × (left ≡ [])
 EndsHead all gathered left headers ends.Limit = EndsInHead gathered
@@ -158,7 +158,7 @@ ShowsEnd bytes headers _ = Unit {0}
 
 -- Whether more bytes may make a head of these, which are too few and hold none.
 abbrev pub MayGrow : List ℕ → Bool → Type 0
-MayGrow bytes true = HasNoRequest bytes → length bytes < 16384 → EndsInHead bytes
+MayGrow bytes true = HasNoRequest bytes → length bytes < MOST_HEAD → EndsInHead bytes
 MayGrow bytes false = NeverHasRequest (looked_at bytes)
 
 -- The body is filled with the bytes that are left, or they end before.

@@ -8,11 +8,15 @@ use Rattle.pm_http.specs.declared.size.BodySize.TheVariants.{Refused, Bytes}
 use Rattle.pm_http.specs.declared.request.Request.{Request}
 use Rattle.pm_http.specs.declared.next.Next.{Next}
 use Rattle.pm_http.specs.declared.next.Next.TheVariants as next
-use Rattle.pm_http.specs.Head.{fields_of, body_size, moment_of, closes}
+use Rattle.pm_http.specs.Head.{MOST_BODY, fields_of, body_size, moment_of, closes}
+
+-- How many bytes a head has at the most.
+abbrev pub MOST_HEAD : ℕ
+MOST_HEAD = 16384
 
 -- The bytes in which a head has to end.
 abbrev pub looked_at : List ℕ → List ℕ
-looked_at bytes = take 16384 bytes
+looked_at bytes = take MOST_HEAD bytes
 
 -- A whole head stands at the front. There is at most one.
 abbrev pub HasHead : List ℕ → RequestHead → Type 0
@@ -29,7 +33,7 @@ pub record IsOf (head : RequestHead) (request : Request) : Type 0 where
 pub record IsFirst (bytes : List ℕ) (request : Request) (after : List ℕ) : Type 0 where
   pub head : RequestHead
   pub reads : ReadsRequest bytes head (request.body ++ after)
-  pub short : length (print_request head) ≤ 16384
+  pub short : length (print_request head) ≤ MOST_HEAD
   pub size : body_size head ≡ Bytes (length request.body)
   pub parts : IsOf head request
 
@@ -42,7 +46,7 @@ pub record IsUnfinished (bytes : List ℕ) : Type 0 where
 -- The bytes that are looked at hold no whole head: none that may follow give one, or there are enough of them.
 abbrev pub HasNoHead : List ℕ → Code → Type 0
 HasNoHead bytes H1 = NeverHasRequest (looked_at bytes)
-HasNoHead bytes H2 = (16384 ≤ length bytes) × IsUnfinished (looked_at bytes)
+HasNoHead bytes H2 = (MOST_HEAD ≤ length bytes) × IsUnfinished (looked_at bytes)
 HasNoHead bytes _ = ⊥
 
 -- The request at the front is refused by this code: it has no head, or its head breaks a rule.
@@ -52,7 +56,7 @@ IsRefused bytes code =
 
 -- The bytes end inside a head, or before its first byte.
 pub record EndsInHead (bytes : List ℕ) : Type 0 where
-  pub few : length bytes < 16384
+  pub few : length bytes < MOST_HEAD
   pub unended : IsUnfinished bytes
 
 -- The bytes end inside the body of a request.
@@ -61,7 +65,7 @@ pub record EndsInBody (bytes : List ℕ) : Type 0 where
   pub body : List ℕ
   pub size : ℕ
   pub reads : ReadsRequest bytes head body
-  pub short : length (print_request head) ≤ 16384
+  pub short : length (print_request head) ≤ MOST_HEAD
   pub size_is : body_size head ≡ Bytes size
   pub less : length body < size
 
@@ -100,5 +104,5 @@ IsPlaced offset _ = Unit {0}
 
 -- The body of a request has at most 16,777,216 bytes.
 abbrev pub IsSmall : Next → Type 0
-IsSmall (next.Request request) = length request.body ≤ 16777216
+IsSmall (next.Request request) = length request.body ≤ MOST_BODY
 IsSmall _ = Unit {0}

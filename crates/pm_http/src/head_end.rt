@@ -3,7 +3,7 @@ ghost use Rattle.std.specs.Prelude.{◌≡◌, ◌≢◌, ◌<◌, ◌≤◌, �
 ghost use Rattle.httparse.specs.Grammar.{HasNoRequest};
 ghost use Rattle.pm_base.specs.Causes.{Rose};
 ghost use Rattle.pm_base.specs.Feed.{left_to, KnowsEnd, MOST_READ};
-ghost use Rattle.pm_http.specs.Stream.{looked_at};
+ghost use Rattle.pm_http.specs.Stream.{MOST_HEAD, looked_at};
 ghost use Rattle.pm_http.specs.Piece.{Gathers, Grows, EndsHead, StepsHead, HeadStands, PieceStands, IsBegun, IsLast, ShowsEnd, MayGrow};
 
 use crate::HttpError;
@@ -76,11 +76,11 @@ fn read_on<S: Source>(
     begun: &mut bool,
 ) -> Result<Option<HeadEnd>, HttpError>
     requires knows_end { S.IsTold → KnowsEnd feed.old (S.left source.old) }
-    requires few { vec_len head.old < 16384 }
+    requires few { vec_len head.old < MOST_HEAD }
     requires room { length fields.old ≡ 64 }
     ensures begun { S.IsTold → IsBegun begun.old head.old.items → OnOk result (IsBegun begun.new head.new.items) }
     ensures steps { S.IsTold → (all : List ℕ) → IsBegun begun.old head.old.items → Gathers all head.old.items (left_to feed.old (S.left source.old)) → IfOk result (StepsHead all head.new.items (left_to feed.new (S.left source.new)) fields.new) }
-    ensures grows { IfOk result (λ o. o ≡ None → (vec_len head.old < vec_len head.new) × (vec_len head.new < 16384)) }
+    ensures grows { IfOk result (λ o. o ≡ None → (vec_len head.old < vec_len head.new) × (vec_len head.new < MOST_HEAD)) }
     ensures shows { IfOk result (λ o. IfSome o (ShowsEnd head.new.items fields.new)) }
     ensures given { S.IsTold → feed.new.given + length (left_to feed.new (S.left source.new)) ≡ feed.old.given + length (left_to feed.old (S.left source.old)) }
     ensures knows_end { S.IsTold → KnowsEnd feed.new (S.left source.new) }
@@ -107,7 +107,7 @@ fn judge(
 ) -> Result<Option<HeadEnd>, AllocError>
     requires room { length fields.old ≡ 64 }
     ensures steps { (all left : List ℕ) → IsBegun begun head.now → Grows all head.now left piece → IfOk result (StepsHead all head.now left fields.new) }
-    ensures few { IfOk result (λ o. o ≡ None → (length head.now < 16384) × (IsLast piece → ⊥)) }
+    ensures few { IfOk result (λ o. o ≡ None → (length head.now < MOST_HEAD) × (IsLast piece → ⊥)) }
     ensures shows { IfOk result (λ o. IfSome o (ShowsEnd head.now fields.new)) }
     ensures stands { (given : ℕ) → PieceStands given piece → IfOk result (λ o. IfSome o (HeadStands given)) }
 {
@@ -139,7 +139,7 @@ fn unended(
 ) -> Result<Option<HeadEnd>, AllocError>
     requires room { length fields.old ≡ 64 }
     ensures steps { (all left : List ℕ) (piece : Piece) → (IsLast piece → ⊥) → HasNoRequest head.now → Grows all head.now left piece → IfOk result (StepsHead all head.now left fields.new) }
-    ensures few { IfOk result (λ o. o ≡ None → length head.now < 16384) }
+    ensures few { IfOk result (λ o. o ≡ None → length head.now < MOST_HEAD) }
     ensures shows { IfOk result (λ o. IfSome o (ShowsEnd head.now fields.new)) }
     ensures stands { (given : ℕ) → given ≤ MOST_READ → IfOk result (λ o. IfSome o (HeadStands given)) }
 {
@@ -209,7 +209,7 @@ fn in_between(
 ) -> Result<Option<HeadEnd>, AllocError>
     requires room { length fields.old ≡ 64 }
     ensures steps { (all left : List ℕ) (piece : Piece) → (IsLast piece → ⊥) → Grows all head.now left piece → IfOk result (StepsHead all head.now left fields.new) }
-    ensures few { IfOk result (λ o. o ≡ None → length head.now < 16384) }
+    ensures few { IfOk result (λ o. o ≡ None → length head.now < MOST_HEAD) }
     ensures shows { IfOk result (λ o. IfSome o (ShowsEnd head.now fields.new)) }
     ensures stands { (given : ℕ) → given ≤ MOST_READ → IfOk result (λ o. IfSome o (HeadStands given)) }
 {
@@ -225,7 +225,7 @@ fn in_between(
 // The bytes in which a head has to end.
 fn front(head: &[u8]) -> &[u8]
     ensures value { result.now ≡ looked_at head.now }
-    ensures few { length result.now ≤ 16384 }
+    ensures few { length result.now ≤ MOST_HEAD }
 {
     if head.len() < MOST_HEAD {
         head

@@ -2,6 +2,7 @@
 ghost use Rattle.std.specs.Prelude.{◌≡◌, ◌<◌, ◌≤◌, ◌+◌, ℕ, Err, length, vec_len, IfOk};
 ghost use Rattle.pm_base.specs.Causes.{Rose};
 ghost use Rattle.pm_base.specs.Feed.{left_to, KnowsEnd, MOST_READ};
+ghost use Rattle.pm_http.specs.Stream.{MOST_HEAD};
 ghost use Rattle.pm_http.specs.Piece.{Moves, IsLast, BeginsLine, PieceStands, IsPushed, IsLineKind};
 
 use crate::HttpError;
@@ -31,7 +32,7 @@ pub fn read_piece<S: Source>(
     head: &mut Vec<u8>,
 ) -> Result<Piece, HttpError>
     requires knows_end { S.IsTold → KnowsEnd feed.old (S.left source.old) }
-    requires room { vec_len head.old ≤ 16384 }
+    requires room { vec_len head.old ≤ MOST_HEAD }
     ensures moves { S.IsTold → IfOk result (Moves head.old.items (left_to feed.old (S.left source.old)) head.new.items (left_to feed.new (S.left source.new))) }
     ensures grows { IfOk result (λ piece. (IsLast piece → ⊥) → vec_len head.old < vec_len head.new) }
     ensures given { S.IsTold → feed.new.given + length (left_to feed.new (S.left source.new)) ≡ feed.old.given + length (left_to feed.old (S.left source.old)) }
@@ -91,7 +92,7 @@ fn take_part<S: Source>(
     head: &mut Vec<u8>,
 ) -> Result<Piece, HttpError>
     requires knows_end { S.IsTold → KnowsEnd feed.old (S.left source.old) }
-    requires room { vec_len head.old ≤ 16384 }
+    requires room { vec_len head.old ≤ MOST_HEAD }
     ensures moves { S.IsTold → BeginsLine feed.old.given (left_to feed.old (S.left source.old)) → IfOk result (Moves head.old.items (left_to feed.old (S.left source.old)) head.new.items (left_to feed.new (S.left source.new))) }
     ensures grows { IfOk result (λ piece. (IsLast piece → ⊥) → vec_len head.old < vec_len head.new) }
     ensures given { S.IsTold → feed.new.given + length (left_to feed.new (S.left source.new)) ≡ feed.old.given + length (left_to feed.old (S.left source.old)) }

@@ -6,7 +6,7 @@ ghost use Rattle.httparse.specs.Spans.{IsRequestAt, IsHeaderWithin, header_bytes
 ghost use Rattle.pm_base.specs.Causes.{Rose};
 ghost use Rattle.pm_base.specs.Feed.{left_to, KnowsEnd, MOST_READ};
 ghost use Rattle.pm_http.specs.Head.{body_size, first_of, values_of, IsWithinLimit};
-ghost use Rattle.pm_http.specs.Stream.{StopsAtLimit, MayBeTold, readable, IsNext, IsPlaced, IsSmall, IsOf};
+ghost use Rattle.pm_http.specs.Stream.{MOST_HEAD, StopsAtLimit, MayBeTold, readable, IsNext, IsPlaced, IsSmall, IsOf};
 ghost use Rattle.pm_http.specs.Piece.{IsGathered, IsParsed};
 
 use crate::body::{body_room, fill};
@@ -144,7 +144,7 @@ fn first_value(
     name: &[u8],
 ) -> Result<Option<Text>, AllocError>
     requires within { All (IsHeaderWithin (length head.now)) fields.now }
-    requires short { All (IsHeaderWithin 16384) fields.now }
+    requires short { All (IsHeaderWithin MOST_HEAD) fields.now }
     ensures { IfOk result (λ value. value ≡ first_of (values_of name.now (map (header_bytes head.now) fields.now))) }
 {
     match values_named(head, fields, name) {

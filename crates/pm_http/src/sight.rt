@@ -1,6 +1,7 @@
 //! What some bytes show of the head at their front.
 ghost use Rattle.std.specs.Prelude.{◌≡◌, ◌≤◌, length, IfOk};
 ghost use Rattle.httparse.specs.Spans.{RequestOverflows};
+ghost use Rattle.pm_http.specs.Stream.{MOST_HEAD};
 ghost use Rattle.pm_http.specs.Piece.{IsSight, IsCrowded};
 
 use httparse::spans::{EMPTY_HEADER_SPAN, HeaderSpan, RequestSpans, parse_request};
@@ -41,7 +42,7 @@ fn room(alloc: Global, count: usize) -> Result<Vec<HeaderSpan>, AllocError>
 /// What some bytes show, with the fields of the head in `fields`.
 pub fn look(alloc: Global, bytes: &[u8], fields: &mut [HeaderSpan]) -> Result<Sight, AllocError>
     requires room { length fields.old ≡ 64 }
-    requires few { length bytes.now ≤ 16384 }
+    requires few { length bytes.now ≤ MOST_HEAD }
     ensures { IfOk result (IsSight bytes.now fields.new) }
 {
     match parse_request(bytes, fields) {
@@ -55,7 +56,7 @@ pub fn look(alloc: Global, bytes: &[u8], fields: &mut [HeaderSpan]) -> Result<Si
 // What some bytes show whose every head has more than 64 fields.
 #[cold]
 fn look_crowded(alloc: Global, bytes: &[u8]) -> Result<Sight, AllocError>
-    requires few { length bytes.now ≤ 16384 }
+    requires few { length bytes.now ≤ MOST_HEAD }
     requires crowded { RequestOverflows 64 bytes.now }
     ensures { IfOk result (IsCrowded bytes.now) }
 {
@@ -66,7 +67,7 @@ fn look_crowded(alloc: Global, bytes: &[u8]) -> Result<Sight, AllocError>
 // The same, with room for all fields.
 fn look_with(bytes: &[u8], fields: &mut [HeaderSpan]) -> Sight
     requires room { length fields.old ≡ 8192 }
-    requires few { length bytes.now ≤ 16384 }
+    requires few { length bytes.now ≤ MOST_HEAD }
     requires crowded { RequestOverflows 64 bytes.now }
     ensures { IsCrowded bytes.now result }
 {
