@@ -23,8 +23,11 @@ use std::alloc::{AllocError, Global};
 // The room that a head begins with, in bytes; a longer one takes more.
 const USUAL_HEAD: usize = 1024;
 
-/// Reads the next request. `offset` in the answer is that of its first byte, counted from the first that the feed gave.
-/// After an error, a framing refusal or a cut, bytes may have been taken, and the feed is of no more use.
+/// Reads the next request of a stream (RFC 9112): a head of at most 16,384 bytes and 64 fields, and a body of at most
+/// 16,777,216 bytes. `offset` in the answer is that of its first byte, counted in bytes from the first that the feed gave.
+/// `ReadFault` comes where the source failed, `Limit` where as many bytes as a feed takes end inside the request, and
+/// `Memory` for want of it. After an error, a framing refusal or a cut, bytes may have been taken, and the feed is of no
+/// more use.
 pub fn next_request<S: Source>(
     alloc: Global,
     feed: &mut Feed,
