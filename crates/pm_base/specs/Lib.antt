@@ -1,14 +1,7 @@
-pub mod Causes
-pub mod Outside
 pub mod Pieces
-pub mod Line
-pub mod Feed
-pub mod FeedFields
+pub mod Lines
 pub mod Moment
 pub mod Number
 pub mod Class
 pub mod Code
 pub mod Names
-pub mod Memory
-pub mod Calendar
-pub mod FileName

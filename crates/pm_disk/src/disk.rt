@@ -3,10 +3,10 @@
 //! Content is told per type: the clauses on content hold where `IsTold` does, which is so for the disk in memory and for no
 //! real file. The clauses on faults hold for all.
 ghost use Rattle.std.specs.Prelude.{◌≡◌, ◌≤◌, ◌+◌, ℕ, length, take, drop, IfOk, OnOk};
-ghost use Rattle.pm_base.specs.Causes.{HasCause};
+ghost use Rattle.pm_outside.specs.Causes.{HasCause};
 
 use crate::Area;
-use pm_base::Failed;
+use pm_outside::Failed;
 
 /// A disk that a stop may catch at any moment. Offsets and lengths are in bytes.
 pub trait Disk {

@@ -1,10 +1,10 @@
 //! The disk over a file of the working directory.
 //!
 //! What a real file does at a stop is trusted, and said nowhere: this disk tells no content. The clauses on faults hold.
-ghost use Rattle.pm_base.specs.Causes.{HasCause};
+ghost use Rattle.pm_outside.specs.Causes.{HasCause};
 
 use crate::{Area, Disk};
-use pm_base::Failed;
+use pm_outside::Failed;
 use std::fs::File;
 use std::io;
 use std::os::unix::fs::{FileExt, OpenOptionsExt};

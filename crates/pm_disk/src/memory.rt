@@ -1,6 +1,6 @@
 //! A disk in memory, of whose calls some fail. It keeps a record of its calls, and tells what they made.
 ghost use Rattle.std.specs.Prelude.{◌≡◌, ◌≤◌, ◌<◌, ◌+◌, ◌++◌, [], ◌∷◌, ◌↔◌, ℕ, length, Contains, IsTrue, IsErr, IfOk};
-ghost use Rattle.pm_base.specs.Causes.{Rose};
+ghost use Rattle.pm_outside.specs.Causes.{Rose};
 ghost use Rattle.pm_disk.specs.declared.area.Area.{Area};
 ghost use Rattle.pm_disk.specs.Moments.{of};
 ghost use Rattle.pm_disk.specs.Made.{replayed, blank};
@@ -11,7 +11,7 @@ ghost use Rattle.pm_disk.specs.Sound.{replayed_reads};
 use crate::contents::Contents;
 use crate::record::{MAX_CALLS, Record};
 use crate::{Area, Call, Disk};
-use pm_base::Failed;
+use pm_outside::Failed;
 use std::alloc::{AllocError, Global};
 
 /// A disk in memory. It records its first 65,536 calls, with the bytes of each write. A call past these fails, and so does
@@ -88,7 +88,7 @@ fn fail(faults: &mut u64) -> Failed
 
 impl Disk for MemDisk {
     ghost use Rattle.std.specs.Prelude.{take, drop, OnOk};
-    ghost use Rattle.pm_base.specs.Causes.{HasCause};
+    ghost use Rattle.pm_outside.specs.Causes.{HasCause};
     ghost use Rattle.pm_disk.specs.Area.{IsWrite, IsCut, IsSync};
     ghost use Rattle.pm_disk.specs.Moments.{IsStep};
     ghost use Rattle.pm_disk.specs.Memory.{told_of, faults_of, IsStopped, IsWriteStopped, SamePlan};

@@ -1,5 +1,5 @@
 use super::*;
-use pm_base::Failed;
+use pm_outside::Failed;
 use std::fs;
 use std::process::Abort;
 use std::test::Fail;

@@ -4,9 +4,9 @@ use Rattle.std.specs.List.{slice_range}
 use Rattle.std.proofs.lemmas.Bool.Decides.{nat_tests}
 use Rattle.std.proofs.lemmas.List.{take_all, length-take}
 use Rattle.std.proofs.Math.Seq.{take-add, take-append-add, take-append_seam}
-use Rattle.pm_base.specs.Feed.{IsFirstLine, MOST_READ}
-use Rattle.pm_base.specs.Line.{HasNoLineFeed}
-use Rattle.pm_base.proofs.LineLemmas.{none_at_all_take}
+use Rattle.pm_outside.specs.Feed.{IsFirstLine, MOST_READ}
+use Rattle.pm_base.specs.Lines.{HasNoLineFeed}
+use Rattle.pm_outside.proofs.LineLemmas.{none_at_all_take}
 use Rattle.pm_http.specs.declared.piece.Piece.{Piece}
 use Rattle.pm_http.specs.declared.piece.Piece.TheVariants.{Blank, Line, Part, End, Limit}
 use Rattle.pm_http.specs.Piece.{IsPiece, IsLineKind, IsPushed, BeginsLine, Moves}

@@ -8,7 +8,7 @@ use Rattle.httparse.specs.Grammar.{RequestHead, print_request, ReadsRequest, Has
 use Rattle.httparse.specs.declared.spans.HeaderSpan.{HeaderSpan}
 use Rattle.httparse.specs.declared.spans.RequestSpans.{RequestSpans}
 use Rattle.httparse.proofs.GrammarLemmas.{ReadsRequest-append}
-use Rattle.pm_base.specs.Line.{HasNoLineFeed}
+use Rattle.pm_base.specs.Lines.{HasNoLineFeed}
 use Rattle.pm_http.specs.declared.piece.Piece.{Piece}
 use Rattle.pm_http.specs.declared.piece.Piece.TheVariants.{Blank, Line, Part, End, Limit}
 use Rattle.pm_http.specs.declared.sight.Sight.TheVariants as sight

@@ -1,12 +1,12 @@
 //! The reading of a body.
 ghost use Rattle.std.specs.Prelude.{◌≡◌, ◌≤◌, ◌+◌, ◌<◌, false, Ok, Err, length, vec_len, IfOk};
-ghost use Rattle.pm_base.specs.Causes.{Rose};
-ghost use Rattle.pm_base.specs.Feed.{left_to, KnowsEnd, MOST_READ};
+ghost use Rattle.pm_outside.specs.Causes.{Rose};
+ghost use Rattle.pm_outside.specs.Feed.{left_to, KnowsEnd, MOST_READ};
 ghost use Rattle.pm_http.specs.Piece.{BodyStops, Fills};
 
 use crate::HttpError;
 use crate::taking::take_behind;
-use pm_base::{Feed, FeedError, Source};
+use pm_outside::{Feed, FeedError, Source};
 use std::alloc::{AllocError, Global};
 
 /// Room for a body of so many bytes.

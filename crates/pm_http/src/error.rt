@@ -1,6 +1,7 @@
 //! Why a call of this crate doesn't answer.
 
-use pm_base::{FeedError, Text};
+use pm_base::Text;
+use pm_outside::FeedError;
 use std::alloc::AllocError;
 
 /// Why no request is read.

@@ -1,8 +1,8 @@
 //! The reading of a head.
 ghost use Rattle.std.specs.Prelude.{◌≡◌, ◌≢◌, ◌<◌, ◌≤◌, ◌+◌, ◌++◌, false, [], ℕ, List, None, Ok, Err, length, vec_len, IfOk, OnOk, IfSome};
 ghost use Rattle.httparse.specs.Grammar.{HasNoRequest};
-ghost use Rattle.pm_base.specs.Causes.{Rose};
-ghost use Rattle.pm_base.specs.Feed.{left_to, KnowsEnd, MOST_READ};
+ghost use Rattle.pm_outside.specs.Causes.{Rose};
+ghost use Rattle.pm_outside.specs.Feed.{left_to, KnowsEnd, MOST_READ};
 ghost use Rattle.pm_http.specs.Stream.{MOST_HEAD, looked_at};
 ghost use Rattle.pm_http.specs.Piece.{Gathers, Grows, EndsHead, StepsHead, HeadStands, PieceStands, IsBegun, IsLast, ShowsEnd, MayGrow};
 
@@ -10,7 +10,7 @@ use crate::HttpError;
 use crate::piece::{Piece, read_piece};
 use crate::sight::{Sight, look};
 use httparse::spans::{HeaderSpan, RequestSpans};
-use pm_base::{Feed, Source};
+use pm_outside::{Feed, Source};
 use std::alloc::{AllocError, Global};
 
 /// How the reading of a head ends.

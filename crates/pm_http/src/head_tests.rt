@@ -1,6 +1,7 @@
 //! What no contract says of a head: that the definitions mean what RFC 9112 means, on rows made by hand.
 use crate::*;
-use pm_base::{Code, Feed, MemSource};
+use pm_base::Code;
+use pm_outside::{Feed, MemSource};
 use std::alloc::{AllocError, Global};
 use std::process::Abort;
 use std::test::Fail;

@@ -1,13 +1,14 @@
 //! The pieces in which a head is gathered: its lines. A head ends with a line, so no byte behind it is taken.
 ghost use Rattle.std.specs.Prelude.{◌≡◌, ◌<◌, ◌≤◌, ◌+◌, ℕ, Err, length, vec_len, IfOk};
-ghost use Rattle.pm_base.specs.Causes.{Rose};
-ghost use Rattle.pm_base.specs.Feed.{left_to, KnowsEnd, MOST_READ};
+ghost use Rattle.pm_outside.specs.Causes.{Rose};
+ghost use Rattle.pm_outside.specs.Feed.{left_to, KnowsEnd, MOST_READ};
 ghost use Rattle.pm_http.specs.Stream.{MOST_HEAD};
 ghost use Rattle.pm_http.specs.Piece.{Moves, IsLast, BeginsLine, PieceStands, IsPushed, IsLineKind};
 
 use crate::HttpError;
 use crate::taking::take_behind;
-use pm_base::{Feed, FeedError, Line, MOST_LINE, Source};
+use pm_base::MOST_LINE;
+use pm_outside::{Feed, FeedError, Line, Source};
 use std::alloc::AllocError;
 
 /// A piece of a head.

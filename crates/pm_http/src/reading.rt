@@ -3,8 +3,8 @@ ghost use Rattle.std.specs.Prelude.{◌≡◌, ◌≤◌, ◌+◌, ℕ, List, []
 ghost use Rattle.std.specs.List.{All};
 ghost use Rattle.httparse.specs.Grammar.{RequestHead};
 ghost use Rattle.httparse.specs.Spans.{IsRequestAt, IsHeaderWithin, header_bytes};
-ghost use Rattle.pm_base.specs.Causes.{Rose};
-ghost use Rattle.pm_base.specs.Feed.{left_to, KnowsEnd, MOST_READ};
+ghost use Rattle.pm_outside.specs.Causes.{Rose};
+ghost use Rattle.pm_outside.specs.Feed.{left_to, KnowsEnd, MOST_READ};
 ghost use Rattle.pm_http.specs.Head.{body_size, first_of, values_of, IsWithinLimit};
 ghost use Rattle.pm_http.specs.Stream.{MOST_HEAD, StopsAtLimit, MayBeTold, readable, IsNext, IsPlaced, IsSmall, IsOf};
 ghost use Rattle.pm_http.specs.Piece.{IsGathered, IsParsed};
@@ -17,7 +17,8 @@ use crate::sight::field_room;
 use crate::size::{BodySize, read_size};
 use crate::{HttpError, Next, Request};
 use httparse::spans::{HeaderSpan, RequestSpans};
-use pm_base::{Blob, Code, Feed, Source, Text};
+use pm_base::{Blob, Code, Text};
+use pm_outside::{Feed, Source};
 use std::alloc::{AllocError, Global};
 
 // The room that a head begins with, in bytes; a longer one takes more.

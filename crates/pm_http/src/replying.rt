@@ -1,14 +1,15 @@
 //! The writing of replies.
 ghost use Rattle.std.specs.Prelude.{◌≡◌, ◌≢◌, ◌==◌, ◌≤◌, ◌++◌, [], length, if◌then◌else◌, Err, IfOk, OnErr};
 ghost use Rattle.http.specs.StatusCode.{IsStatusCode};
-ghost use Rattle.pm_base.specs.Causes.{Rose};
+ghost use Rattle.pm_outside.specs.Causes.{Rose};
 ghost use Rattle.pm_http.specs.Reply.{content_of, refusal_body, head_text, reply_text, Writes};
 
 use crate::pushing::{
     push_allow, push_close, push_content_fields, push_moment, push_refusal, push_status,
 };
 use crate::{Reply, ReplyError};
-use pm_base::{Code, Sink};
+use pm_base::Code;
+use pm_outside::Sink;
 use std::alloc::{AllocError, Global};
 
 /// Writes a reply: the status with its phrase, Content-Type and Content-Length, with H6 the methods in Allow, the moment in

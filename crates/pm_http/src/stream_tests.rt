@@ -3,7 +3,7 @@ ghost use Rattle.std.specs.Prelude.{List, []};
 
 use crate::plain_tests::{Plain, plain_request};
 use crate::*;
-use pm_base::{Failed, Feed, Source};
+use pm_outside::{Failed, Feed, Source};
 use std::alloc::{AllocError, Global};
 use std::process::Abort;
 use std::test::Fail;

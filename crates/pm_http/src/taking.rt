@@ -1,9 +1,9 @@
 //! Bytes taken into the rest of a buffer.
 ghost use Rattle.std.specs.Prelude.{◌≡◌, ◌≤◌, ◌<◌, ◌+◌, ◌++◌, [], Ok, Err, length, vec_len, take, slice_range, IfOk, MatchResult};
-ghost use Rattle.pm_base.specs.Causes.{Rose};
-ghost use Rattle.pm_base.specs.Feed.{left_to, KnowsEnd, MOST_READ};
+ghost use Rattle.pm_outside.specs.Causes.{Rose};
+ghost use Rattle.pm_outside.specs.Feed.{left_to, KnowsEnd, MOST_READ};
 
-use pm_base::{Feed, FeedError, Source};
+use pm_outside::{Feed, FeedError, Source};
 
 /// Takes the first bytes that are left behind the first `at` of the buffer.
 pub fn take_behind<S: Source>(

@@ -2,7 +2,8 @@
 ghost use Rattle.http.specs.StatusCode.{IsStatusCode};
 
 use crate::*;
-use pm_base::{Blob, Code, MemSink, Text};
+use pm_base::{Blob, Code, Text};
+use pm_outside::MemSink;
 use std::alloc::{AllocError, Global};
 use std::process::Abort;
 use std::test::Fail;

@@ -1,6 +1,6 @@
 //! The two steps of adding an item: it is put behind the closed gate, and then the gate is opened.
 ghost use Rattle.std.specs.Prelude.{◌≡◌, ◌<◌, ◌≤◌, ◌+◌, ◌^◌, ◌++◌, [], ◌∷◌, List, ℕ, length, set, take, OnOk};
-ghost use Rattle.pm_base.specs.Causes.{HasCause};
+ghost use Rattle.pm_outside.specs.Causes.{HasCause};
 ghost use Rattle.pm_disk.specs.Area.{clean};
 ghost use Rattle.pm_disk.specs.Moments.{of, Throughout};
 ghost use Rattle.pm_journal.specs.Items.{front, size_bytes, EachFits};
@@ -8,7 +8,7 @@ ghost use Rattle.pm_journal.specs.Lists.{HasEither};
 ghost use Rattle.pm_journal.specs.Journal.{IsAtEnd};
 ghost use Rattle.pm_journal.specs.Appending.{IsCleanTo, IsStaging, IsOpening, IsCutting};
 
-use pm_base::Failed;
+use pm_outside::Failed;
 use pm_disk::{Area, Disk};
 
 const CLOSED: u8 = 0;

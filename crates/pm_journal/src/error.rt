@@ -1,7 +1,7 @@
 //! Why a journal refuses.
 ghost use Rattle.std.specs.Prelude.{◌≡◌};
 
-use pm_base::Failed;
+use pm_outside::Failed;
 use std::alloc::AllocError;
 
 /// Why a call of a journal is refused. Offsets and lengths are in bytes.

@@ -10,7 +10,7 @@
 //! An area of at most 9 bytes is fresh. `append` writes the length, the item and a closed gate behind the closed gate, syncs,
 //! opens the gate, and syncs again. `next` cuts what stands behind the closed gate, so that nothing counts once it is opened.
 ghost use Rattle.std.specs.Prelude.{◌≡◌, ◌<◌, ◌≤◌, ◌+◌, ◌^◌, ◌++◌, [], ◌∷◌, List, ℕ, length, drop, IsNone, OnOk, IfOk, IfErr, IsErrOf};
-ghost use Rattle.pm_base.specs.Causes.{Rose};
+ghost use Rattle.pm_outside.specs.Causes.{Rose};
 ghost use Rattle.pm_disk.specs.Moments.{of, Throughout};
 ghost use Rattle.pm_journal.specs.Lists.{KeepsLists, HasEither};
 
@@ -19,7 +19,8 @@ use crate::opening::begin;
 use crate::phase::Phase;
 use crate::reading::{Found, find};
 use crate::{Item, JournalError};
-use pm_base::{Blob, Failed};
+use pm_base::Blob;
+use pm_outside::Failed;
 use pm_disk::{Area, Disk};
 use std::alloc::Global;
 

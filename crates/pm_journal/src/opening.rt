@@ -1,6 +1,6 @@
 //! The opening of an area, up to its first gate.
 ghost use Rattle.std.specs.Prelude.{◌≡◌, ◌<◌, ◌≤◌, ◌^◌, ◌++◌, ◌∷◌, [], ◌↔◌, IsTrue, IfOk, OnOk, IfErr, IsErrOf, length, take};
-ghost use Rattle.pm_base.specs.Causes.{HasCause, Rose};
+ghost use Rattle.pm_outside.specs.Causes.{HasCause, Rose};
 ghost use Rattle.pm_disk.specs.Area.{clean};
 ghost use Rattle.pm_disk.specs.Moments.{of, Throughout};
 ghost use Rattle.pm_journal.specs.Items.{mark};
@@ -10,7 +10,7 @@ ghost use Rattle.pm_journal.specs.Opening.{IsBegun, IsShort, IsRefreshing};
 ghost use Rattle.pm_journal.specs.Refusals.{RefusesToOpen};
 
 use crate::JournalError;
-use pm_base::Failed;
+use pm_outside::Failed;
 use pm_disk::{Area, Disk};
 
 const MARK: [u8; 8] = *b"PMDLOG1\n";

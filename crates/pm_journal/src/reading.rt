@@ -1,6 +1,6 @@
 //! What stands from a gate on.
 ghost use Rattle.std.specs.Prelude.{◌≡◌, ◌<◌, ◌≤◌, ◌+◌, ◌^◌, IfOk, IfSome, IfErr, IsErrOf, length, drop};
-ghost use Rattle.pm_base.specs.Causes.{Rose};
+ghost use Rattle.pm_outside.specs.Causes.{Rose};
 ghost use Rattle.pm_disk.specs.Moments.{of};
 ghost use Rattle.pm_journal.specs.Items.{size_bytes};
 ghost use Rattle.pm_journal.specs.Reading.{FindsAt, FitsBefore, RefusesToFind, IsFaultOrMemory, IsItemOrCutShort};

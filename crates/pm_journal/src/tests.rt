@@ -4,7 +4,7 @@ ghost use Rattle.pm_disk.specs.Memory.{told_of};
 ghost use Rattle.pm_journal.specs.Journal.{area_of, IsUsable, IsReady, IsTied};
 
 use super::*;
-use pm_base::Failed;
+use pm_outside::Failed;
 use pm_disk::{Area, Disk, MemDisk};
 use std::alloc::Global;
 use std::process::Abort;

@@ -6,7 +6,7 @@ use Rattle.std.proofs.lemmas.List.{take_at}
 use Rattle.std.proofs.lemmas.List.Splits.{join_with_byte-slice_split}
 use Rattle.std.specs.List.{All, slice_split, onto_first, join_with_byte}
 use Rattle.pm_base.proofs.PiecesLemmas.{some_piece}
-use Rattle.pm_base.specs.Line.{MOST_LINE}
+use Rattle.pm_base.specs.Lines.{MOST_LINE}
 use Rattle.pm_base.specs.Pieces.{words_of}
 use Rattle.pm_model.specs.EventLine.{event_line, event_of_words, AreNames}
 

@@ -7,7 +7,7 @@ use Rattle.std.proofs.lemmas.Slice.Eq.{bytes_eq-Decides}
 use Rattle.pm_base.specs.Class.{class_name}
 use Rattle.pm_base.specs.declared.class.Class.{Class}
 use Rattle.pm_base.specs.declared.class.Class.TheVariants.{ManagedElement, GnbCuCp, NrCellCu, GnbDu, NrCellDu}
-use Rattle.pm_base.specs.Line.{MOST_LINE}
+use Rattle.pm_base.specs.Lines.{MOST_LINE}
 use Rattle.pm_base.specs.Pieces.{words_of}
 use Rattle.pm_base.specs.declared.code.Code.{Code}
 use Rattle.pm_dn.specs.Tree.{add_refusal}

@@ -1,11 +1,11 @@
 -- How far the reading of an inventory has come, and how it ends.
 use Rattle.std.proofs.Common.{◌≡◌, ◌≢◌, ◌+◌, ◌<◌, ℕ, List, [], ◌∷◌, ◌++◌, length, take, Result, Ok, Err, inl, inr, refl, sym, ◌∙◌, ap, subst, arith, length-append}
 use Rattle.std.proofs.lemmas.List.{append-nil}
-use Rattle.pm_base.specs.Line.{MOST_LINE, lines_of, HasNoLineFeed}
-use Rattle.pm_base.specs.Feed.{IsFirstLine}
+use Rattle.pm_base.specs.Lines.{MOST_LINE, lines_of, HasNoLineFeed}
+use Rattle.pm_outside.specs.Feed.{IsFirstLine}
 use Rattle.pm_base.specs.declared.code.Code.{Code}
 use Rattle.pm_base.specs.declared.code.Code.TheVariants.{I1, I2}
-use Rattle.pm_base.proofs.LinesLemmas.{lines_of-next, lines_of-long}
+use Rattle.pm_outside.proofs.LinesLemmas.{lines_of-next, lines_of-long}
 use Rattle.pm_model.specs.Inventory.{InventoryState, HasRoot, HasSlots, end_line}
 use Rattle.pm_model.specs.Reading.{AddsLine, RefusesLine}
 use Rattle.pm_model.specs.ReadingLines.{empty_inventory, AddsShort, AddsLines, RefusesNext, IsReadSoFar, IsInventoryRefusal, IsCutOff, IsRead, ReadsInventory, EndsAt, stop_error}

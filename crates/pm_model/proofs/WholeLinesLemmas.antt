@@ -3,9 +3,9 @@ use Rattle.std.proofs.Common.{◌≡◌, ◌⊎◌, ℕ, zero, suc, List, [], �
 use Rattle.std.proofs.lemmas.List.{append-nil}
 use Rattle.std.proofs.lemmas.Grind.{flat_map-append}
 use Rattle.std.specs.List.{All}
-use Rattle.pm_base.specs.Line.{HasNoLineFeed, lines_of}
-use Rattle.pm_base.specs.Feed.{IsFirstLine}
-use Rattle.pm_base.proofs.LinesLemmas.{lines_of-next}
+use Rattle.pm_base.specs.Lines.{HasNoLineFeed, lines_of}
+use Rattle.pm_outside.specs.Feed.{IsFirstLine}
+use Rattle.pm_outside.proofs.LinesLemmas.{lines_of-next}
 use Rattle.pm_model.specs.Inventory.{text_of_lines}
 use Rattle.pm_model.specs.WholeLines.{TakesLines}
 

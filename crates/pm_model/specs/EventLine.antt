@@ -1,6 +1,6 @@
 -- Lines of events, of the form `MOMENT LDN METRIC VALUE` (this project's own).
 use Rattle.std.specs.Prelude.{◌≡◌, ◌≢◌, ◌&&◌, ◌++◌, ℕ, All, List, [], ◌∷◌, length, nat_le, Option, Some, None, if◌then◌else◌}
-use Rattle.pm_base.specs.Line.{MOST_LINE}
+use Rattle.pm_base.specs.Lines.{MOST_LINE}
 use Rattle.pm_base.specs.Pieces.{words_of}
 use Rattle.pm_base.specs.Number.{is_number, is_moment, number_of}
 

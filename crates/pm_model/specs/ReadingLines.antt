@@ -1,6 +1,6 @@
 -- The lines of an inventory up to its `end`, and the first line that is refused (this project's own).
 use Rattle.std.specs.Prelude.{◌≡◌, ◌≢◌, ◌⊎◌, ◌+◌, ◌<◌, ◌≤◌, ◌++◌, ℕ, List, [], ◌∷◌, length, Result, Ok, Err}
-use Rattle.pm_base.specs.Line.{MOST_LINE, lines_of}
+use Rattle.pm_base.specs.Lines.{MOST_LINE, lines_of}
 use Rattle.pm_base.specs.declared.code.Code.{Code}
 use Rattle.pm_base.specs.declared.code.Code.TheVariants.{I1, I2, M5, N10}
 use Rattle.pm_model.specs.WholeLines.{TakesLines}

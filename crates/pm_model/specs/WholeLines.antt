@@ -1,7 +1,7 @@
 -- Lines that their line feeds end, at the front of bytes (this project's own).
 use Rattle.std.specs.Prelude.{◌≡◌, ◌⊎◌, List, [], ◌∷◌, ◌++◌, ℕ, All}
 use Rattle.pm_base.specs.Pieces.{pieces_of}
-use Rattle.pm_base.specs.Line.{HasNoLineFeed, lines_of}
+use Rattle.pm_base.specs.Lines.{HasNoLineFeed, lines_of}
 use Rattle.pm_model.specs.Inventory.{text_of_lines}
 
 -- The lines among parts that line feeds part: no line feed ends the last part.

@@ -5,15 +5,16 @@
 //!     measure NAME CLASS DER REDUCE N
 //!     end
 ghost use Rattle.std.specs.Prelude.{◌≡◌, ◌+◌, ◌-◌, ◌≤◌, ◌<◌, ◌↔◌, length, take, IsTrue, IfOk, Err};
-ghost use Rattle.pm_base.specs.Causes.{Rose};
-ghost use Rattle.pm_base.specs.Line.{HasNoLine};
-ghost use Rattle.pm_base.specs.Feed.{left_to, KnowsEnd, MOST_READ};
+ghost use Rattle.pm_outside.specs.Causes.{Rose};
+ghost use Rattle.pm_base.specs.Lines.{HasNoLine};
+ghost use Rattle.pm_outside.specs.Feed.{left_to, KnowsEnd, MOST_READ};
 ghost use Rattle.pm_model.specs.Inventory.{InventoryState, end_line};
 ghost use Rattle.pm_model.specs.ReadingLines.{ReadsInventory, EndsAt, stop_error};
 
 use crate::inventory::{InvError, Inventory};
 use crate::line::{Stop, take_line};
-use pm_base::{Code, Feed, FeedError, Line, Source};
+use pm_base::Code;
+use pm_outside::{Feed, FeedError, Line, Source};
 use pm_dn::Tree;
 use pm_meas::Catalogue;
 use std::alloc::Global;

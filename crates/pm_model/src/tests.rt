@@ -1,7 +1,8 @@
 //! Inventories in memory.
 
 use super::*;
-use pm_base::{Code, Feed, Line, MemSource};
+use pm_base::Code;
+use pm_outside::{Feed, Line, MemSource};
 use pm_dn::Tree;
 use pm_meas::{Catalogue, Reduce};
 use std::alloc::{AllocError, Global};

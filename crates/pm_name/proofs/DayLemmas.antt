@@ -10,8 +10,8 @@ use lib.Signed.{non_neg}
 use lib.IntN.{nat_abs}
 use Rattle.jiff_core.proofs.SignedLemmas.{signed_arith, back_small}
 use Rattle.jiff_core.proofs.CalendarLemmas.{days_from_civil-day_count, day_count-epoch, day_count-lt_year, days_of_months-zero}
-use Rattle.pm_base.specs.Calendar.{IsDate, days_in_year, days_in_month, days_before_year, days_before_month, day_number}
-use Rattle.pm_base.proofs.CalendarLemmas.{days_before_year-first, days_before_year-next, days_before_month-first, days_before_month-next}
+use Rattle.pm_name.specs.Calendar.{IsDate, days_in_year, days_in_month, days_before_year, days_before_month, day_number}
+use Rattle.pm_name.proofs.CalendarLemmas.{days_before_year-first, days_before_year-next, days_before_month-first, days_before_month-next}
 
 -- the days of the years before 1970
 years-epoch : jiff.days_of_years 11970 ≡ 4371953

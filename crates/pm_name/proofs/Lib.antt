@@ -1,3 +1,5 @@
+pub mod CalendarLemmas
+pub mod FileNameLemmas
 pub mod DayLemmas
 pub mod PartLemmas
 pub mod ReadingLemmas

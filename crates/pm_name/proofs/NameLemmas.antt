@@ -1,8 +1,8 @@
 -- The parts of a text, read to its end, are those of a file name, and a file name's text is read so.
 use Rattle.std.proofs.Common.{inl, inr, ◌≡◌, ℕ, ◌+◌, ◌*◌, ◌/◌, ◌<◌, ◌≤◌, List, [], ◌++◌, Option, None, Some, codes, refl, sym, ap, ◌∙◌, arith, append_assoc}
-use Rattle.pm_base.specs.Calendar.{Date, IsDateOf}
-use Rattle.pm_base.specs.FileName.{FileType, A, C, FileNameParts, IsFileSpan, IsNameable, IsFileName, date_text, time_text, type_text, minute_of_day, file_name_text}
-use Rattle.pm_base.proofs.FileNameLemmas.{end-whole, moment-parts, file_length-A}
+use Rattle.pm_name.specs.Calendar.{Date, IsDateOf}
+use Rattle.pm_name.specs.FileName.{FileType, A, C, FileNameParts, IsFileSpan, IsNameable, IsFileName, date_text, time_text, type_text, minute_of_day, file_name_text}
+use Rattle.pm_name.proofs.FileNameLemmas.{end-whole, moment-parts, file_length-A}
 use Rattle.pm_name.specs.Reading.{ReadsType, ReadsDate, ReadsStart, LooksLikeDate, ReadsEndDate, IsEnd, ReadsEnd, ReadsJob, ReadsUnique, ToStartDate, ToStart, ToEndDate, ToEnd, ToJob}
 use Rattle.pm_name.specs.Name.{IsTimesText}
 use Rattle.pm_name.proofs.PartLemmas.{like_looks}

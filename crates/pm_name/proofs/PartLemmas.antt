@@ -8,9 +8,9 @@ use Rattle.std.proofs.lemmas.Bool.{cases_lt}
 use Rattle.std.proofs.lemmas.Grind.{common_steps}
 use Rattle.std.proofs.lemmas.List.Sums.{prefix_len-drop_no, prefix_len-drop_all, prefix_len_stops}
 use Rattle.pm_base.specs.Names.{IsJobId, is_id_char}
-use Rattle.pm_base.specs.Calendar.{Date, IsDate}
-use Rattle.pm_base.specs.FileName.{two_digits}
-use Rattle.pm_base.proofs.FileNameLemmas.{days_in_month-le, two_digits-front, prefix_len-run, append-same_length, tails}
+use Rattle.pm_name.specs.Calendar.{Date, IsDate}
+use Rattle.pm_name.specs.FileName.{two_digits}
+use Rattle.pm_name.proofs.FileNameLemmas.{days_in_month-le, two_digits-front, prefix_len-run, append-same_length, tails}
 use Rattle.pm_name.specs.Reading.{BeginsWith, ReadsDate, ReadsJob, LooksLikeDate}
 
 -- each part of a date has its digits

@@ -1,8 +1,8 @@
 -- Each part of a text is read in one way.
 use Rattle.std.proofs.Common.{◌≡◌, ℕ, List, ◌∷◌, Option, None, Some, refl, sym, ap, ◌∙◌, subst, arith}
-use Rattle.pm_base.specs.Calendar.{day_number}
-use Rattle.pm_base.specs.FileName.{FileType, A, C}
-use Rattle.pm_base.proofs.FileNameLemmas.{type_text-front, date_text-front, time_text-front, job_id-front, tails}
+use Rattle.pm_name.specs.Calendar.{day_number}
+use Rattle.pm_name.specs.FileName.{FileType, A, C}
+use Rattle.pm_name.proofs.FileNameLemmas.{type_text-front, date_text-front, time_text-front, job_id-front, tails}
 use Rattle.pm_name.specs.Reading.{ReadsType, ReadsDate, ReadsStart, ReadsEndDate, IsEnd, ReadsEnd, ReadsJob, ToStartDate, ToStart, ToEndDate, ToEnd, ToJob}
 
 ReadsDate-one : (b : List ℕ) (d e : ℕ) (r s : List ℕ) → ReadsDate b d r → ReadsDate b e s → (d ≡ e) × (r ≡ s)

@@ -1,7 +1,7 @@
 -- A text has one refusal, and none where it is a file name.
 use Rattle.std.proofs.Common.{◌≢◌, Result, Err, ◌≡◌, ℕ, zero, suc, ◌+◌, ◌-◌, ◌<◌, ◌≤◌, inl, inr, List, ◌++◌, Option, codes, refl, sym, ap, ◌∙◌, subst, arith}
 use Rattle.std.proofs.lemmas.Bool.{cases_order}
-use Rattle.pm_base.specs.FileName.{FileType, SaysFileName}
+use Rattle.pm_name.specs.FileName.{FileType, SaysFileName}
 use Rattle.pm_name.specs.declared.error.NameError.{NameError}
 use Rattle.pm_name.specs.declared.error.NameError.TheVariants.{F1, F2, F3, F4, F5, F6, F7, Memory}
 use Rattle.pm_name.specs.Reading.{ReadsType, ReadsDate, ReadsStart, ReadsEndDate, ReadsJob, ReadsUnique, ToStartDate, ToStart, ToEndDate, ToEnd, ToJob, Refuses}

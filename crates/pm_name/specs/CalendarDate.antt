@@ -1,5 +1,5 @@
 -- Dates of the program as dates of the calendar.
-use Rattle.pm_base.specs.Calendar.{Date}
+use Rattle.pm_name.specs.Calendar.{Date}
 use Rattle.pm_name.specs.declared.date.CalendarDate.{CalendarDate}
 
 -- The date with these parts.

@@ -1,5 +1,5 @@
 -- The types of a report file.
-use Rattle.pm_base.specs.FileName as name
+use Rattle.pm_name.specs.FileName as name
 use Rattle.pm_name.specs.declared.kind.FileKind.{FileKind}
 use Rattle.pm_name.specs.declared.kind.FileKind.TheVariants.{A, C}
 

@@ -1,3 +1,5 @@
+pub mod Calendar
+pub mod FileName
 pub mod Kind
 pub mod CalendarDate
 pub mod Name

@@ -1,7 +1,7 @@
 -- What a file name of the program says.
 use Rattle.std.specs.Prelude.{◌≡◌, ℕ, List, ◌++◌, codes}
-use Rattle.pm_base.specs.Calendar.{Date, IsDateOf}
-use Rattle.pm_base.specs.FileName.{FileType, FileNameParts, IsEndDate, date_text, time_text, type_text, minute_of_day}
+use Rattle.pm_name.specs.Calendar.{Date, IsDateOf}
+use Rattle.pm_name.specs.FileName.{FileType, FileNameParts, IsEndDate, date_text, time_text, type_text, minute_of_day}
 use Rattle.pm_name.specs.declared.kind.FileKind.{FileKind}
 use Rattle.pm_name.specs.Kind.{type_of}
 

@@ -2,9 +2,9 @@
 use Rattle.std.specs.Prelude.{◌≡◌, ◌≤◌, ◌<◌, ℕ, ◌+◌, ◌*◌, ◌%◌, List, ◌++◌, length, codes, Option, None, Some}
 use Rattle.std.specs.List.{AllPass, prefix_len}
 use Rattle.std.specs.Char.{is_ascii_digit}
-use Rattle.pm_base.specs.Calendar.{Date, IsDate, day_number}
+use Rattle.pm_name.specs.Calendar.{Date, IsDate, day_number}
 use Rattle.pm_base.specs.Names.{IsJobId, IsDnId, is_id_char}
-use Rattle.pm_base.specs.FileName.{FileType, A, C, IsFileSpan, minute_of_day, date_text, time_text, type_text}
+use Rattle.pm_name.specs.FileName.{FileType, A, C, IsFileSpan, minute_of_day, date_text, time_text, type_text}
 use Rattle.pm_name.specs.declared.error.NameError.{NameError}
 use Rattle.pm_name.specs.declared.error.NameError.TheVariants.{F1, F2, F3, F4, F5, F6, F7, Memory}
 

@@ -1,6 +1,6 @@
 //! Dates by day number, from 1970-01-01 to 9999-12-31.
 ghost use Rattle.std.specs.Prelude.{◌≡◌, ◌<◌, ◌≤◌, MatchOption};
-ghost use Rattle.pm_base.specs.Calendar.{IsDate, day_number};
+ghost use Rattle.pm_name.specs.Calendar.{IsDate, day_number};
 
 use jiff_core::civil::Date;
 

@@ -1,6 +1,6 @@
 //! Two digits and fixed marks at the front of a text.
 ghost use Rattle.std.specs.Prelude.{◌≡◌, ◌≢◌, ◌<◌, ◌+◌, ℕ, List, ◌∷◌, ◌++◌, MatchOption};
-ghost use Rattle.pm_base.specs.FileName.{two_digits};
+ghost use Rattle.pm_name.specs.FileName.{two_digits};
 
 /// The digit at the front, and the bytes behind it.
 fn split_digit(bytes: &[u8]) -> Option<(u8, &[u8])>

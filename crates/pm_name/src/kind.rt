@@ -1,6 +1,6 @@
 //! The types of a report file, and the reporting periods that each may cover.
 ghost use Rattle.std.specs.Prelude.{◌≡◌, ◌↔◌, IsTrue};
-ghost use Rattle.pm_base.specs.FileName.{file_type, IsFileLength, IsFileSpan};
+ghost use Rattle.pm_name.specs.FileName.{file_type, IsFileLength, IsFileSpan};
 
 /// The type of a report file (TS 32.432; which type is written when is this project's own).
 #[derive(Clone, Copy, Debug, PartialEq, Eq)]

@@ -1,6 +1,6 @@
 //! The name of a report file.
 ghost use Rattle.std.specs.Prelude.{◌≡◌, ◌≢◌, ◌↔◌, ℕ, List, Err, IsOk, IfOk, MatchResult, length, ◌≤◌};
-ghost use Rattle.pm_base.specs.FileName.{FileNameParts, IsFileName, IsNameable, SaysFileName};
+ghost use Rattle.pm_name.specs.FileName.{FileNameParts, IsFileName, IsNameable, SaysFileName};
 ghost use Rattle.pm_name.specs.declared.error.NameError.{NameError as Refusal};
 
 use crate::scan::scan_name;
@@ -24,7 +24,7 @@ pub struct FileName {
 }
 
 impl Model for FileName {
-    ghost use Rattle.pm_base.specs.FileName.{FileNameParts, IsNameable};
+    ghost use Rattle.pm_name.specs.FileName.{FileNameParts, IsNameable};
 
     ghost Value = { FileNameParts };
 

@@ -1,6 +1,6 @@
 //! A text read as a file name without memory: its ids stay in the text.
 ghost use Rattle.std.specs.Prelude.{◌≡◌, ◌≤◌, ◌%◌, MatchResult};
-ghost use Rattle.pm_base.specs.FileName.{IsFileName};
+ghost use Rattle.pm_name.specs.FileName.{IsFileName};
 ghost use Rattle.pm_name.specs.Kind.{type_of};
 ghost use Rattle.pm_name.specs.Name.{name_parts};
 ghost use Rattle.pm_name.specs.Reading.{ToStart, ToEnd, Refuses};

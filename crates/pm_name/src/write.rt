@@ -1,7 +1,7 @@
 //! The text of a file name, from the front.
 ghost use Rattle.std.specs.Prelude.{◌≡◌, ◌≤◌, ◌<◌, ◌+◌, ◌/◌, List, ◌++◌, ℕ, OnOk, IfOk, length, codes};
-ghost use Rattle.pm_base.specs.Calendar.{Date, IsDate, IsDateOf, day_number};
-ghost use Rattle.pm_base.specs.FileName.{IsFileSpan, IsEndDate, date_text, time_text, type_text, minute_of_day};
+ghost use Rattle.pm_name.specs.Calendar.{Date, IsDate, IsDateOf, day_number};
+ghost use Rattle.pm_name.specs.FileName.{IsFileSpan, IsEndDate, date_text, time_text, type_text, minute_of_day};
 ghost use Rattle.pm_name.specs.Kind.{type_of};
 ghost use Rattle.pm_name.specs.Name.{IsTimesText};
 

@@ -1,7 +1,8 @@
 //! The tally of a counter, from bytes to bytes.
 ghost use Rattle.std.specs.Prelude.{List, [], ◌≤◌};
 
-use pm_base::{Code, Failed, Feed, Line, MemSink, MemSource, Source};
+use pm_base::Code;
+use pm_outside::{Failed, Feed, Line, MemSink, MemSource, Source};
 use pm_top::{PlainTally, Status, plain_tally, pmd};
 use std::alloc::{AllocError, Global};
 use std::process::Abort;

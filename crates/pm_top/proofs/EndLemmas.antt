@@ -3,11 +3,11 @@ use Rattle.std.proofs.Common.{◌≡◌, ◌+◌, ◌-◌, ◌<◌, ◌≤◌, �
 use Rattle.std.proofs.lemmas.List.{append-nil}
 use Rattle.std.proofs.lemmas.Bool.{lt-leb}
 use Rattle.std.proofs.Math.Seq.{take-append-add}
-use Rattle.pm_base.specs.Line.{MOST_LINE, HasNoLineFeed, HasNoLine, lines_of}
+use Rattle.pm_base.specs.Lines.{MOST_LINE, HasNoLineFeed, HasNoLine, lines_of}
 use Rattle.pm_base.specs.Pieces.{words_of}
 use Rattle.pm_base.specs.declared.code.Code.{Code}
 use Rattle.pm_base.specs.declared.code.Code.TheVariants.{E1, Z1}
-use Rattle.pm_base.proofs.LinesLemmas.{lines_of-long, lines_of-last, lines_of-first}
+use Rattle.pm_outside.proofs.LinesLemmas.{lines_of-long, lines_of-last, lines_of-first}
 use Rattle.pm_model.specs.Slot.{Slot}
 use Rattle.pm_model.specs.Inventory.{text_of_lines}
 use Rattle.pm_model.specs.WholeLines.{whole_lines}

@@ -2,7 +2,7 @@
 use Rattle.std.proofs.Common.{◌≡◌, ◌⊎◌, ◌+◌, ◌-◌, ◌≤◌, ◌++◌, ◌∷◌, ℕ, true, false, cond, List, [], length, take, drop, Err, inl, inr, refl, sym, ◌∙◌, ap, subst, arith, append_assoc, length-append, take-append-drop, length-drop}
 use Rattle.std.proofs.lemmas.List.{append-nil, take_at}
 use Rattle.std.proofs.Math.Dec.{eqb}
-use Rattle.pm_base.specs.Line.{HasNoLineFeed, HasNoLine, lines_of, lines_of_parts}
+use Rattle.pm_base.specs.Lines.{HasNoLineFeed, HasNoLine, lines_of, lines_of_parts}
 use Rattle.pm_base.specs.Pieces.{pieces_of}
 use Rattle.pm_model.specs.Slot.{event_slots}
 use Rattle.pm_model.specs.Inventory.{InventoryState, text_of_lines}

@@ -8,7 +8,7 @@ use Rattle.std.proofs.Math.Seq.{drop-append_seam}
 use Rattle.std.proofs.Math.Nat.{suc-mod, mod_self, mod-eq_of_lt}
 use Rattle.std.proofs.lemmas.Nat.{mod_below}
 use Rattle.std.specs.List.{flat_map, range_with_len}
-use Rattle.pm_base.specs.Line.{lines_of, lines_of_parts}
+use Rattle.pm_base.specs.Lines.{lines_of, lines_of_parts}
 use Rattle.pm_base.specs.Moment.{tick_of}
 use Rattle.pm_base.specs.declared.code.Code.TheVariants.{E4, E5}
 use Rattle.pm_model.specs.Slot.{Slot, event_slots}

@@ -2,7 +2,7 @@
 use Rattle.std.proofs.Common.{◌≡◌, ◌+◌, ℕ, cond, List, [], ◌∷◌, ◌++◌, length, Option, Some, None, is_none, refl, sym, ◌∙◌, ap, subst, arith, append_assoc, length-append}
 use Rattle.std.proofs.lemmas.List.{append-nil}
 use Rattle.std.specs.List.{All}
-use Rattle.pm_base.specs.Line.{HasNoLineFeed, lines_of}
+use Rattle.pm_base.specs.Lines.{HasNoLineFeed, lines_of}
 use Rattle.pm_base.specs.declared.code.Code.{Code}
 use Rattle.pm_model.specs.Slot.{Slot}
 use Rattle.pm_model.specs.Inventory.{text_of_lines}

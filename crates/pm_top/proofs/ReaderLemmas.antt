@@ -9,7 +9,7 @@ use Rattle.std.proofs.lemmas.Bool.Decides.{nat_tests}
 use Rattle.std.proofs.lemmas.List.{take-append-drop, take_all, length-drop, drop_more}
 use Rattle.std.specs.List.{list_all, onto_first, position_from}
 use Rattle.std.specs.Char.{is_ascii_digit}
-use Rattle.pm_base.specs.Line.{MOST_LINE}
+use Rattle.pm_base.specs.Lines.{MOST_LINE}
 use Rattle.pm_base.specs.Number.{is_number, is_moment, number_of}
 use Rattle.pm_base.specs.Pieces.{words_of}
 use Rattle.pm_model.specs.Slot.{Slot, slot_place}

@@ -6,9 +6,9 @@ use Rattle.std.proofs.lemmas.Bool.Decides.{eqb_tells}
 use Rattle.std.proofs.lemmas.Grind.{flat_map-append}
 use Rattle.std.proofs.Math.Dec.{eqb}
 use Rattle.std.specs.List.{All}
-use Rattle.pm_base.specs.Line.{HasNoLineFeed, lines_of}
+use Rattle.pm_base.specs.Lines.{HasNoLineFeed, lines_of}
 use Rattle.pm_base.proofs.PiecesLemmas.{some_piece}
-use Rattle.pm_base.proofs.LinesLemmas.{lines_of-first}
+use Rattle.pm_outside.proofs.LinesLemmas.{lines_of-first}
 use Rattle.pm_model.specs.Inventory.{text_of_lines}
 use Rattle.pm_model.specs.WholeLines.{whole_lines, whole_parts}
 

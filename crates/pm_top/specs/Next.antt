@@ -1,7 +1,7 @@
 -- What an input gives next (this project's own).
 use Rattle.std.specs.Prelude.{◌≡◌, ◌+◌, ◌-◌, ◌<◌, ◌≤◌, ℕ, List, [], ◌∷◌, ◌++◌, length, take}
-use Rattle.pm_base.specs.Line.{MOST_LINE, HasNoLineFeed, HasNoLine}
-use Rattle.pm_base.specs.Feed.{FeedState, MOST_READ}
+use Rattle.pm_base.specs.Lines.{MOST_LINE, HasNoLineFeed, HasNoLine}
+use Rattle.pm_outside.specs.Feed.{FeedState, MOST_READ}
 use Rattle.pm_top.specs.declared.next.Next.{Next}
 use Rattle.pm_top.specs.declared.next.Next.TheVariants.{Line, Last, Long, End, Limit, Failed}
 

@@ -3,7 +3,7 @@
 -- `left` is what the input has left at the end, `IsTold` says whether the output tells what was written to it, `old` is
 -- what that was before, and `new` what it is then.
 use Rattle.std.specs.Prelude.{◌≡◌, ◌⊎◌, ◌+◌, ◌-◌, ◌^◌, ◌<◌, ◌≤◌, ℕ, List, [], ◌∷◌, ◌++◌, length, take, Some}
-use Rattle.pm_base.specs.Line.{lines_of}
+use Rattle.pm_base.specs.Lines.{lines_of}
 use Rattle.pm_base.specs.declared.code.Code.{Code}
 use Rattle.pm_base.specs.declared.code.Code.TheVariants.{Z1}
 use Rattle.pm_model.specs.Slot.{Slot, event_slots}

@@ -1,6 +1,6 @@
 //! The lines that a tally writes.
 ghost use Rattle.std.specs.Prelude.{◌≡◌, ◌≤◌, ◌<◌, ◌+◌, ◌*◌, ◌^◌, ℕ, List, ◌++◌, ◌∷◌, [], length, take, Some, slice_get, OnOk, MatchResult, Err};
-ghost use Rattle.pm_base.specs.Causes.{Rose};
+ghost use Rattle.pm_outside.specs.Causes.{Rose};
 ghost use Rattle.pm_base.specs.Moment.{tick_of};
 ghost use Rattle.pm_meas.specs.Cell.{cell_of};
 ghost use Rattle.pm_model.specs.Slot.{Slot};
@@ -10,7 +10,8 @@ ghost use Rattle.pm_top.specs.Counting.{Counts};
 
 use crate::counting::Counting;
 use itoa::Buffer;
-use pm_base::{Sink, TICK_SECONDS, tick};
+use pm_base::{TICK_SECONDS, tick};
+use pm_outside::Sink;
 use pm_meas::Cell;
 use pm_model::SlotTable;
 use std::alloc::AllocError;

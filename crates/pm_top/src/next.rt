@@ -1,10 +1,10 @@
 //! What an input gives next.
 ghost use Rattle.std.specs.Prelude.{◌≡◌, ◌+◌, ◌<◌, ◌≤◌, length};
-ghost use Rattle.pm_base.specs.Causes.{Rose};
-ghost use Rattle.pm_base.specs.Feed.{left_to, KnowsEnd, MOST_READ};
+ghost use Rattle.pm_outside.specs.Causes.{Rose};
+ghost use Rattle.pm_outside.specs.Feed.{left_to, KnowsEnd, MOST_READ};
 ghost use Rattle.pm_top.specs.Next.{GivesNext, EndsLine};
 
-use pm_base::{Feed, FeedError, Line, Source};
+use pm_outside::{Feed, FeedError, Line, Source};
 
 /// What an input gives next.
 #[derive(Clone, Copy, Debug, PartialEq, Eq)]

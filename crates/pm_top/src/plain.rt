@@ -2,7 +2,7 @@
 //!
 //! It is slow, and holds the input's events. Tests compare the program with it.
 ghost use Rattle.std.specs.Prelude.{◌≡◌, ◌≤◌, ◌<◌, ◌+◌, ◌^◌, ◌++◌, ℕ, List, [], map, length, drop, IfOk};
-ghost use Rattle.pm_base.specs.Line.{lines_of_parts};
+ghost use Rattle.pm_base.specs.Lines.{lines_of_parts};
 ghost use Rattle.pm_base.specs.Pieces.{pieces_of};
 ghost use Rattle.pm_model.specs.Slot.{event_slots};
 ghost use Rattle.pm_top.specs.Outcome.{IsOutcome};
@@ -11,7 +11,8 @@ ghost use Rattle.pm_top.specs.Plain.{IsByRule, EndsBy};
 use crate::Status;
 use crate::plain_events::{GoodEvents, Refused, good_events, moment_of_last};
 use crate::plain_text::text_before;
-use pm_base::{Blob, Code, Feed, MemSource, tick};
+use pm_base::{Blob, Code, tick};
+use pm_outside::{Feed, MemSource};
 use pm_model::{InventoryError, ReadInventory, SlotTable, read_inventory};
 use std::alloc::{AllocError, Global};
 

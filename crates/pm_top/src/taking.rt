@@ -1,6 +1,6 @@
 //! What a tally does with a further line.
 ghost use Rattle.std.specs.Prelude.{◌≡◌, ◌≤◌, ◌++◌, ℕ, List, length, Err};
-ghost use Rattle.pm_base.specs.Causes.{Rose};
+ghost use Rattle.pm_outside.specs.Causes.{Rose};
 ghost use Rattle.pm_model.specs.declared.event.Event.{Event};
 ghost use Rattle.pm_top.specs.Counting.{Counts};
 ghost use Rattle.pm_top.specs.Tally.{ended_lines};
@@ -10,7 +10,8 @@ use crate::Status;
 use crate::counting::Counting;
 use crate::lines::{Fault, write_tick};
 use crate::reader::Reader;
-use pm_base::{Code, Sink, tick};
+use pm_base::{Code, tick};
+use pm_outside::Sink;
 use pm_model::SlotTable;
 
 /// Why a line was not counted.

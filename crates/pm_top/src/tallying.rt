@@ -1,7 +1,7 @@
 //! The tally of a stream of events.
 ghost use Rattle.std.specs.Prelude.{◌≡◌, ◌≢◌, ◌+◌, ◌++◌, ◌≤◌, ◌<◌, ◌^◌, [], ℕ, List, length};
-ghost use Rattle.pm_base.specs.Causes.{Rose};
-ghost use Rattle.pm_base.specs.Feed.{left_to, KnowsEnd};
+ghost use Rattle.pm_outside.specs.Causes.{Rose};
+ghost use Rattle.pm_outside.specs.Feed.{left_to, KnowsEnd};
 ghost use Rattle.pm_model.specs.Slot.{event_slots};
 ghost use Rattle.pm_model.specs.declared.event.Event.{Event};
 ghost use Rattle.pm_top.specs.Tally.{ended_lines};
@@ -16,7 +16,8 @@ use crate::lines::{Fault, write_tick};
 use crate::next::{Next, next_line};
 use crate::reader::Reader;
 use crate::taking::take_line;
-use pm_base::{Code, Feed, Sink, Source};
+use pm_base::Code;
+use pm_outside::{Feed, Sink, Source};
 use pm_model::{InventoryError, ReadInventory, SlotTable, read_inventory};
 use std::alloc::Global;
 

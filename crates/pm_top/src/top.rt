@@ -1,11 +1,11 @@
 //! The top call of the program.
 ghost use Rattle.std.specs.Prelude.{◌≡◌, ◌↔◌, ◌≤◌, IsTrue};
-ghost use Rattle.pm_base.specs.Causes.{Rose};
+ghost use Rattle.pm_outside.specs.Causes.{Rose};
 ghost use Rattle.pm_top.specs.Words.{AreTally};
 ghost use Rattle.pm_top.specs.Outcome.{IsOutcome};
 
 use crate::{Status, tally};
-use pm_base::{Sink, Source};
+use pm_outside::{Sink, Source};
 use std::alloc::Global;
 
 /// Does all that the program does, by the words behind its name: `tally` reads an inventory and lines of events from the

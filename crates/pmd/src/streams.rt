@@ -1,7 +1,7 @@
 //! The adapters over readers and writers of the system. They count faults and tell no content.
 ghost use Rattle.std.specs.Prelude.{[]};
 
-use pm_base::{Failed, Sink, Source};
+use pm_outside::{Failed, Sink, Source};
 use std::io::{Read, Write};
 
 /// A source over a reader, as the standard input.

@@ -1,5 +1,5 @@
 use Rattle.std.proofs.Common.{◌≡◌, ◌+◌, ◌-◌, ◌≤◌, ◌++◌, length, vec_len, take}
-use Rattle.pm_base.specs.Feed.{left_to, KnowsEnd, MOST_READ}
+use Rattle.pm_outside.specs.Feed.{left_to, KnowsEnd, MOST_READ}
 use Rattle.pm_http.proofs.body.fill.Given as goal
 
 abbrev pub invariant-bytes : goal.invariant-bytes

@@ -1,5 +1,5 @@
 use Rattle.std.proofs.Common.{◌≡◌, ◌+◌, ◌-◌, ◌<◌, ◌≤◌, length, vec_len}
-use Rattle.pm_base.specs.Feed.{left_to, KnowsEnd}
+use Rattle.pm_outside.specs.Feed.{left_to, KnowsEnd}
 use Rattle.pm_http.specs.Piece.{Gathers, IsBegun}
 use Rattle.pm_http.proofs.head_end.read_head.Given as goal
 

@@ -1,5 +1,5 @@
 use Rattle.std.proofs.Common.{◌<◌, length, arith}
-use Rattle.pm_base.specs.Feed.{left_to}
+use Rattle.pm_outside.specs.Feed.{left_to}
 use Rattle.pm_http.proofs.StepLemmas.{begun_on, moved}
 use Rattle.pm_http.proofs.head_end.read_on.Goals as goal
 

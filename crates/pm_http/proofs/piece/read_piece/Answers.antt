@@ -1,6 +1,6 @@
 use Rattle.std.proofs.Common.{◌≡◌, inl, inr, List, ℕ, length, Err, ap, ◌∙◌, subst, arith, IfOk}
-use Rattle.pm_base.specs.Feed.{left_to}
-use Rattle.pm_base.specs.declared.feed.FeedError.{FeedError}
+use Rattle.pm_outside.specs.Feed.{left_to}
+use Rattle.pm_outside.specs.declared.feed.FeedError.{FeedError}
 use Rattle.pm_http.specs.Piece.{Moves, BeginsLine}
 use Rattle.pm_http.proofs.PieceLemmas.{moved-line}
 use Rattle.pm_http.proofs.piece.read_piece.Goals as goal

@@ -1,6 +1,6 @@
 use Rattle.std.proofs.Common.{inl, inr, ◌∙◌, List, length, subst, sym, ap}
 use Rattle.httparse.specs.declared.spans.HeaderSpan.{HeaderSpan}
-use Rattle.pm_base.specs.Feed.{left_to}
+use Rattle.pm_outside.specs.Feed.{left_to}
 use Rattle.pm_http.specs.Piece.{IsGathered}
 use Rattle.pm_http.proofs.LimitLemmas.{stops-in_head, written_back, answered_before, never_before}
 use Rattle.pm_http.proofs.ReadLemmas.{next-crowded}

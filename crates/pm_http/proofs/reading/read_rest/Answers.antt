@@ -1,6 +1,6 @@
 use Rattle.std.proofs.Common.{◌≡◌, ℕ, [], ◌++◌, length, sym, ap, ◌∙◌, arith}
 use Rattle.std.proofs.lemmas.Result.{err_from_is_err_and}
-use Rattle.pm_base.specs.Feed.{left_to}
+use Rattle.pm_outside.specs.Feed.{left_to}
 use Rattle.pm_http.specs.declared.size.BodySize.TheVariants.{Bytes}
 use Rattle.pm_http.proofs.AnswerLemmas.{gathered-Refused, gathered-Request}
 use Rattle.pm_http.proofs.LimitLemmas.{stops-in_body, front_on, answered_before}

@@ -1,6 +1,6 @@
 use Rattle.std.proofs.Common.{◌≡◌, ◌≢◌, ℕ, List, true, Ok, sym, ◌∙◌, ap, subst, arith}
-use Rattle.pm_base.specs.Feed.{left_to, IsNextLine}
-use Rattle.pm_base.specs.declared.line.Line.{Line}
+use Rattle.pm_outside.specs.Feed.{left_to, IsNextLine}
+use Rattle.pm_outside.specs.declared.line.Line.{Line}
 use Rattle.pm_model.specs.Inventory.{InventoryState, end_line}
 use Rattle.pm_model.specs.Reading.{AddsLine, RefusesLine}
 use Rattle.pm_model.proofs.ReadingLemmas.{read-long, read-next, read-ended, read-stopped}

@@ -1,5 +1,5 @@
 use Rattle.std.proofs.Common.{◌≡◌, ◌+◌, ◌-◌, ◌≤◌, ◌^◌, length}
-use Rattle.pm_base.specs.Feed.{left_to, KnowsEnd}
+use Rattle.pm_outside.specs.Feed.{left_to, KnowsEnd}
 use Rattle.pm_model.specs.ReadingLines.{IsReadSoFar}
 use Rattle.pm_model.proofs.reading.read_inventory.Given as goal
 

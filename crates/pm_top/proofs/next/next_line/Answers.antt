@@ -1,6 +1,6 @@
 use Rattle.std.proofs.Common.{subst}
-use Rattle.pm_base.specs.Feed.{left_to, IsNextLine}
-use Rattle.pm_base.specs.declared.line.Line.{Line}
+use Rattle.pm_outside.specs.Feed.{left_to, IsNextLine}
+use Rattle.pm_outside.specs.declared.line.Line.{Line}
 use Rattle.pm_top.proofs.next.next_line.Goals as goal
 
 pub returns-in-Ok-Long-clause-next : goal.returns-in-Ok-Long-clause-next

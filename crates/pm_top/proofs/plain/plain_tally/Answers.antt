@@ -1,8 +1,8 @@
 use Rattle.std.proofs.Common.{◌≡◌, ◌+◌, ◌≤◌, ◌++◌, ℕ, List, length, map, sym, ◌∙◌, ap, arith, length-append, Bor}
 use Rattle.std.proofs.lemmas.List.{length-map}
-use Rattle.pm_base.specs.Line.{lines_of, lines_of_parts}
-use Rattle.pm_base.specs.Feed.{FeedState, left_to}
-use Rattle.pm_base.specs.Memory.{source_left}
+use Rattle.pm_base.specs.Lines.{lines_of, lines_of_parts}
+use Rattle.pm_outside.specs.Feed.{FeedState, left_to}
+use Rattle.pm_outside.specs.Memory.{source_left}
 use Rattle.pm_top.proofs.PlainLemmas.{outcome-plain, lines-behind}
 use Rattle.pm_top.proofs.plain.plain_tally.Goals as goal
 

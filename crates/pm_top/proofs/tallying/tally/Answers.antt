@@ -1,5 +1,5 @@
 use Rattle.std.proofs.Common.{◌≡◌, ◌+◌, length, Err, sym, ◌∙◌, ap, subst, arith, refl}
-use Rattle.pm_base.specs.Feed.{FeedState, left_to}
+use Rattle.pm_outside.specs.Feed.{FeedState, left_to}
 use Rattle.pm_model.specs.declared.reading.InventoryError.{InventoryError}
 use Rattle.pm_top.specs.Outcome.{IsOutcome}
 use Rattle.pm_top.specs.declared.status.Status.{Status}

@@ -1,5 +1,5 @@
 use Rattle.std.proofs.Common.{◌≡◌, ◌+◌, ◌-◌, ◌≤◌, ◌^◌, length}
-use Rattle.pm_base.specs.Feed.{left_to, KnowsEnd}
+use Rattle.pm_outside.specs.Feed.{left_to, KnowsEnd}
 use Rattle.pm_top.proofs.Progress.{Progress}
 use Rattle.pm_top.proofs.tallying.tally_lines.Given as goal
 

@@ -1,5 +1,5 @@
 use Rattle.std.proofs.Common.{Ok, Err, false, true, refl, arith, length, length-take, ap}
-use Rattle.pm_base.specs.declared.outside.Failed.{Failed}
+use Rattle.pm_outside.specs.declared.outside.Failed.{Failed}
 use Rattle.pm_disk.specs.Contents.{content}
 use Rattle.pm_disk.proofs.MadeLemmas.{reads_cut, small_on, small_same, step_cut}
 use Rattle.pm_disk.proofs.memory.MemDiskDisk.cut.Goals as goal

@@ -1,5 +1,5 @@
 use Rattle.std.proofs.Common.{Ok, Err, not, ap, arith}
-use Rattle.pm_base.specs.declared.outside.Failed.{Failed}
+use Rattle.pm_outside.specs.declared.outside.Failed.{Failed}
 use Rattle.pm_disk.specs.Contents.{content}
 use Rattle.pm_disk.proofs.MadeLemmas.{reads_synced, step_sync, small_same}
 use Rattle.pm_disk.proofs.memory.MemDiskDisk.sync.Goals as goal

@@ -1,5 +1,5 @@
 use Rattle.std.proofs.Common.{Ok, Err, ◌≤◌, false, true, refl, arith, length, ap}
-use Rattle.pm_base.specs.declared.outside.Failed.{Failed}
+use Rattle.pm_outside.specs.declared.outside.Failed.{Failed}
 use Rattle.pm_disk.specs.Contents.{content}
 use Rattle.pm_disk.proofs.MadeLemmas.{reads_looked, replayed_looked, reads_wrote, small_on, small_same, refused_write, step_write, length-overwritten_le}
 use Rattle.pm_disk.proofs.memory.MemDiskDisk.write_at.Goals as goal

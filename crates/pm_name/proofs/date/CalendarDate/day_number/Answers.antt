@@ -1,6 +1,6 @@
 use Rattle.std.proofs.Common.{◌≡◌, ◌≤◌, pos, sym, ◌∙◌, arith}
 use Rattle.jiff_core.proofs.SignedLemmas.{signed_arith}
-use Rattle.pm_base.specs.Calendar.{day_number}
+use Rattle.pm_name.specs.Calendar.{day_number}
 use Rattle.pm_name.proofs.DayLemmas.{made-agrees, cast32}
 use Rattle.pm_name.specs.CalendarDate.{date_of}
 use Rattle.pm_name.proofs.date.CalendarDate.day_number.Goals as goal

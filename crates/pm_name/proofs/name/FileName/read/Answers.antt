@@ -1,5 +1,5 @@
 use Rattle.std.proofs.lemmas.Result.{err_from_is_err_and}
-use Rattle.pm_base.proofs.FileNameLemmas.{IsFileName-one_name}
+use Rattle.pm_name.proofs.FileNameLemmas.{IsFileName-one_name}
 use Rattle.pm_name.proofs.RefusalLemmas.{refused-exact, memory-exact, Refuses-no_name}
 use Rattle.pm_name.proofs.name.FileName.read.Goals as goal
 

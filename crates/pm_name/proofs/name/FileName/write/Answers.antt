@@ -1,6 +1,6 @@
 use Rattle.std.proofs.Common.{◌≡◌, ◌++◌, codes, subst}
-use Rattle.pm_base.specs.FileName.{IsFileName}
-use Rattle.pm_base.proofs.FileNameLemmas.{IsFileName-one_text}
+use Rattle.pm_name.specs.FileName.{IsFileName}
+use Rattle.pm_name.proofs.FileNameLemmas.{IsFileName-one_text}
 use Rattle.pm_name.proofs.NameLemmas.{written-name}
 use Rattle.pm_name.proofs.name.FileName.write.Goals as goal
 

@@ -1,0 +1,49 @@
+-- What a feed holds, and what its calls take of what is left to it and its source (this project's own).
+use Rattle.std.specs.Prelude.{◌≡◌, ◌⊎◌, ◌+◌, ◌-◌, ◌^◌, ◌<◌, ◌≤◌, ℕ, Bool, true, false, List, [], ◌∷◌, ◌++◌, length, take}
+use Rattle.pm_outside.specs.declared.line.Line.{Line}
+use Rattle.pm_outside.specs.declared.line.Line.TheVariants.{Whole, Long, End}
+use Rattle.pm_base.specs.Lines.{MOST_LINE, HasNoLineFeed, HasNoLine}
+
+-- What a feed holds.
+pub record FeedState : Type 0 where
+  pub given : ℕ  -- how many bytes were taken out of it
+  pub buffered : List ℕ  -- the bytes that were read and not taken
+  pub line : List ℕ  -- the line that it lends
+  pub ended : Bool  -- a read found the end of the source
+
+-- What is left to a feed and its source: the bytes in the buffer, then those that the source has left.
+abbrev pub left_to : FeedState → List ℕ → List ℕ
+left_to feed left = feed.buffered ++ left
+
+-- Where a read of the feed found the end, the source has no byte left.
+abbrev pub KnowsEnd : FeedState → List ℕ → Type 0
+KnowsEnd feed left = feed.ended ≡ true → left ≡ []
+
+-- The first line of the bytes, and what is left behind it. The last line may lack its line feed.
+pub record IsFirstLine (before line after : List ℕ) : Type 0 where
+  pub short : length line ≤ MOST_LINE
+  pub one : HasNoLineFeed line
+  pub split : (before ≡ line ++ 10 ∷ after) ⊎ ((before ≡ line) × (after ≡ []) × (0 < length line))
+
+-- The answer on what is left, the line that is lent then, and what is left behind the call. It is `Whole` exactly where
+-- there is a line of at most `MOST_LINE` bytes, `Long` where there is a longer one, and `End` where nothing is left.
+abbrev pub IsNextLine : List ℕ → Line → List ℕ → List ℕ → Type 0
+IsNextLine before (Whole n) line after = IsFirstLine before line after × (n ≡ length line)
+IsNextLine before Long line after = (MOST_LINE < length before) × HasNoLineFeed (take (MOST_LINE + 1) before) × (line ≡ []) × (after ≡ before)
+IsNextLine before End line after = (before ≡ []) × (line ≡ []) × (after ≡ [])
+
+-- How many bytes a feed takes from its source at the most.
+abbrev pub MOST_READ : ℕ
+MOST_READ = 2 ^ 40
+
+-- As many bytes as may be read stand before the end of the next line, and before the end of the source is found.
+pub record MeetsLimit (feed : FeedState) (left : List ℕ) : Type 0 where
+  pub unended : feed.ended ≡ false
+  pub reached : MOST_READ ≤ feed.given + length (left_to feed left)
+  pub unanswered : HasNoLine (take (MOST_READ - feed.given) (left_to feed left))
+
+-- All bytes that may be read were read and taken, and the end of the source was not found.
+pub record IsSpent (feed : FeedState) : Type 0 where
+  pub unended : feed.ended ≡ false
+  pub empty : feed.buffered ≡ []
+  pub reached : feed.given ≡ MOST_READ

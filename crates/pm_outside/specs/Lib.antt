@@ -1,0 +1,6 @@
+pub mod Causes
+pub mod Outside
+pub mod Line
+pub mod Feed
+pub mod FeedFields
+pub mod Memory

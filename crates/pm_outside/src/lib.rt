@@ -1,0 +1,18 @@
+//! The objects outside the program, each with a count of its faults, those in memory, and buffered input.
+#![tactic(auto)]
+
+mod buffer;
+mod copying;
+mod feed;
+mod line;
+mod outside;
+mod sink;
+mod source;
+#[cfg(test)]
+mod tests;
+
+pub use feed::{Feed, FeedError};
+pub use line::Line;
+pub use outside::{Failed, Sink, Source};
+pub use sink::MemSink;
+pub use source::MemSource;
