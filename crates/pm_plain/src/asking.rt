@@ -2,7 +2,8 @@
 use crate::words::{number, numbers, split};
 use pm_base::Class;
 use pm_meas::Kind;
-use pm_model::{Inventory, Metric};
+use pm_history::Metric;
+use pm_inventory::Inventory;
 use pm_slow::{Measured, Terms, Watched};
 use std::alloc::{AllocError, Global};
 

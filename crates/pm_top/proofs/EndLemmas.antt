@@ -8,15 +8,15 @@ use Rattle.pm_base.specs.Pieces.{words_of}
 use Rattle.pm_base.specs.declared.code.Code.{Code}
 use Rattle.pm_base.specs.declared.code.Code.TheVariants.{E1, Z1}
 use Rattle.pm_outside.proofs.LinesLemmas.{lines_of-long, lines_of-last, lines_of-first}
-use Rattle.pm_model.specs.Slot.{Slot}
-use Rattle.pm_model.specs.Inventory.{text_of_lines}
-use Rattle.pm_model.specs.WholeLines.{whole_lines}
-use Rattle.pm_model.specs.EventLine.{LineEvent, event_line, event_of_words}
+use Rattle.pm_inventory.specs.Slot.{Slot}
+use Rattle.pm_base.specs.WholeLines.{text_of_lines}
+use Rattle.pm_base.specs.WholeLines.{whole_lines}
+use Rattle.pm_events.specs.EventLine.{LineEvent, event_line, event_of_words}
 use Rattle.pm_base.specs.Moment.{tick_of}
 use Rattle.pm_top.proofs.TallyLemmas.{all_lines-ended}
-use Rattle.pm_model.specs.Event.{last_moment, events_of, event_of, refusal, refusal_of}
-use Rattle.pm_model.specs.declared.event.Event.{Event}
-use Rattle.pm_model.proofs.EventLemmas.{events_of-more}
+use Rattle.pm_events.specs.Event.{last_moment, events_of, event_of, refusal, refusal_of}
+use Rattle.pm_events.specs.declared.event.Event.{Event}
+use Rattle.pm_events.proofs.EventLemmas.{events_of-more}
 use Rattle.pm_top.specs.Tally.{good_lines, ended_lines, all_lines, tick_lines, tally_text}
 use Rattle.pm_top.specs.Taking.{TakesLine, WritesLine, WritesSome, stop_status}
 use Rattle.pm_top.specs.Finishing.{IsEnd, Finishes, TakesLast, WritesLast}

@@ -4,13 +4,14 @@ use Rattle.std.proofs.lemmas.List.{append-nil, take_at}
 use Rattle.std.proofs.Math.Dec.{eqb}
 use Rattle.pm_base.specs.Lines.{HasNoLineFeed, HasNoLine, lines_of, lines_of_parts}
 use Rattle.pm_base.specs.Pieces.{pieces_of}
-use Rattle.pm_model.specs.Slot.{event_slots}
-use Rattle.pm_model.specs.Inventory.{InventoryState, text_of_lines}
-use Rattle.pm_model.specs.ReadingLines.{AddsLines, empty_inventory, IsRead, ReadsInventory}
-use Rattle.pm_model.specs.ReadingLines as reading
-use Rattle.pm_model.specs.WholeLines.{whole_lines, whole_parts}
-use Rattle.pm_model.specs.declared.reading.InventoryError.{InventoryError}
-use Rattle.pm_model.specs.declared.reading.InventoryError.TheVariants as error
+use Rattle.pm_inventory.specs.Slot.{event_slots}
+use Rattle.pm_base.specs.WholeLines.{text_of_lines}
+use Rattle.pm_inventory.specs.Inventory.{InventoryState}
+use Rattle.pm_inventory.specs.InventoryReading.{AddsLines, empty_inventory, IsRead, ReadsInventory}
+use Rattle.pm_inventory.specs.InventoryReading as reading
+use Rattle.pm_base.specs.WholeLines.{whole_lines, whole_parts}
+use Rattle.pm_inventory.specs.declared.inventory_reading.InventoryError.{InventoryError}
+use Rattle.pm_inventory.specs.declared.inventory_reading.InventoryError.TheVariants as error
 use Rattle.pm_top.specs.Outcome.{MOST, IsTallied, IsTalliedBehind, IsInInventory, IsOutcome, status_of_inventory}
 use Rattle.pm_top.specs.declared.status.Status.{Status}
 use Rattle.pm_top.specs.declared.status.Status.TheVariants.{Done, Usage, BadInput, ReadFault, WriteFault, BadInventory, Memory}

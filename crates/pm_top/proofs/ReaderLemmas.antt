@@ -12,10 +12,10 @@ use Rattle.std.specs.Char.{is_ascii_digit}
 use Rattle.pm_base.specs.Lines.{MOST_LINE}
 use Rattle.pm_base.specs.Number.{is_number, is_moment, number_of}
 use Rattle.pm_base.specs.Pieces.{words_of}
-use Rattle.pm_model.specs.Slot.{Slot, slot_place}
-use Rattle.pm_model.specs.EventLine.{LineEvent, event_line, event_of_words}
-use Rattle.pm_model.specs.Event.{event_of, event_in_slot, read_event}
-use Rattle.pm_model.specs.SlotNames.{slot_names, names_place, HasNoSpace, IsWord, AreWords}
+use Rattle.pm_inventory.specs.Slot.{Slot, slot_place}
+use Rattle.pm_events.specs.EventLine.{LineEvent, event_line, event_of_words}
+use Rattle.pm_events.specs.Event.{event_of, event_in_slot, read_event}
+use Rattle.pm_inventory.specs.SlotNames.{slot_names, names_place, HasNoSpace, IsWord, AreWords}
 
 both : (a b : Bool) → a ≡ true → b ≡ true → (a && b) ≡ true
 both a b first second = ap (λ (x : Bool). x && b) first ∙ second

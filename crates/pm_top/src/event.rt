@@ -1,10 +1,10 @@
 //! The reading of a line of events.
 ghost use Rattle.std.specs.Prelude.{◌≡◌, ◌≤◌, ◌<◌, length, Some, IfOk};
-ghost use Rattle.pm_model.specs.EventLine.{AreNames};
-ghost use Rattle.pm_model.specs.Event.{read_event, event_of};
+ghost use Rattle.pm_events.specs.EventLine.{AreNames};
+ghost use Rattle.pm_events.specs.Event.{read_event, event_of};
 
 use pm_base::Code;
-use pm_model::{Event, EventLine, SlotTable, read_event_line};
+use pm_events::{Event, EventLine, SlotTable, read_event_line};
 
 /// The greatest value of an event.
 pub const GREATEST_VALUE: u64 = 1_048_575;

@@ -3,8 +3,8 @@ ghost use Rattle.std.specs.Prelude.{◌≡◌, ◌≤◌, ◌<◌, ◌+◌, ◌*
 ghost use Rattle.pm_outside.specs.Causes.{Rose};
 ghost use Rattle.pm_base.specs.Moment.{tick_of};
 ghost use Rattle.pm_meas.specs.Cell.{cell_of};
-ghost use Rattle.pm_model.specs.Slot.{Slot};
-ghost use Rattle.pm_model.specs.declared.event.Event.{Event};
+ghost use Rattle.pm_inventory.specs.Slot.{Slot};
+ghost use Rattle.pm_events.specs.declared.event.Event.{Event};
 ghost use Rattle.pm_top.specs.Tally.{value_line, slot_line, tick_lines};
 ghost use Rattle.pm_top.specs.Counting.{Counts};
 
@@ -13,7 +13,7 @@ use itoa::Buffer;
 use pm_base::{TICK_SECONDS, tick};
 use pm_outside::Sink;
 use pm_meas::Cell;
-use pm_model::SlotTable;
+use pm_events::SlotTable;
 use std::alloc::AllocError;
 
 /// Why lines were not written.

@@ -1,12 +1,12 @@
 //! The reading of lines of events, most of which have the moment of the line before them, byte for byte.
 ghost use Rattle.std.specs.Prelude.{◌≡◌, ◌≤◌, ◌<◌, ◌++◌, ◌∷◌, [], ℕ, List, length, take, true, Ok, IfOk, IfSome, IsTrue};
 ghost use Rattle.pm_base.specs.Number.{is_moment, number_of};
-ghost use Rattle.pm_model.specs.Event.{read_event};
+ghost use Rattle.pm_events.specs.Event.{read_event};
 
 use crate::event::{GREATEST_VALUE, read};
 use crate::last_word::last_number;
 use pm_base::{Code, read_moment};
-use pm_model::{Event, SlotTable};
+use pm_events::{Event, SlotTable};
 
 // The digits of a moment of today, and the space behind them.
 const WORD: usize = 11;

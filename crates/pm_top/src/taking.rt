@@ -1,7 +1,7 @@
 //! What a tally does with a further line.
 ghost use Rattle.std.specs.Prelude.{◌≡◌, ◌≤◌, ◌++◌, ℕ, List, length, Err};
 ghost use Rattle.pm_outside.specs.Causes.{Rose};
-ghost use Rattle.pm_model.specs.declared.event.Event.{Event};
+ghost use Rattle.pm_events.specs.declared.event.Event.{Event};
 ghost use Rattle.pm_top.specs.Counting.{Counts};
 ghost use Rattle.pm_top.specs.Tally.{ended_lines};
 ghost use Rattle.pm_top.specs.Taking.{TakesLine, WritesLine, stop_status};
@@ -12,7 +12,7 @@ use crate::lines::{Fault, write_tick};
 use crate::reader::Reader;
 use pm_base::{Code, tick};
 use pm_outside::Sink;
-use pm_model::SlotTable;
+use pm_events::SlotTable;
 
 /// Why a line was not counted.
 #[derive(Clone, Copy, Debug, PartialEq, Eq)]

@@ -2,8 +2,8 @@
 ghost use Rattle.std.specs.Prelude.{◌≡◌, ◌≢◌, ◌+◌, ◌++◌, ◌≤◌, ◌<◌, ◌^◌, [], ℕ, List, length};
 ghost use Rattle.pm_outside.specs.Causes.{Rose};
 ghost use Rattle.pm_outside.specs.Feed.{left_to, KnowsEnd};
-ghost use Rattle.pm_model.specs.Slot.{event_slots};
-ghost use Rattle.pm_model.specs.declared.event.Event.{Event};
+ghost use Rattle.pm_inventory.specs.Slot.{event_slots};
+ghost use Rattle.pm_events.specs.declared.event.Event.{Event};
 ghost use Rattle.pm_top.specs.Tally.{ended_lines};
 ghost use Rattle.pm_top.specs.Counting.{Counts};
 ghost use Rattle.pm_top.specs.Outcome.{IsTallied, IsOutcome};
@@ -18,7 +18,8 @@ use crate::reader::Reader;
 use crate::taking::take_line;
 use pm_base::Code;
 use pm_outside::{Feed, Sink, Source};
-use pm_model::{InventoryError, ReadInventory, SlotTable, read_inventory};
+use pm_events::SlotTable;
+use pm_inventory::{InventoryError, ReadInventory, read_inventory};
 use std::alloc::Global;
 
 // The most bytes of an input.

@@ -1,6 +1,6 @@
 use Rattle.std.proofs.Common.{List, ap, sym, ◌∙◌, arith, refl, ◌≡◌, ◌≤◌, ◌<◌}
-use Rattle.pm_model.specs.Slot.{Slot}
-use Rattle.pm_model.specs.Event.{read_event}
+use Rattle.pm_inventory.specs.Slot.{Slot}
+use Rattle.pm_events.specs.Event.{read_event}
 use Rattle.pm_base.specs.Moment.{tick_of}
 use Rattle.pm_top.proofs.TakingLemmas.{written-same, written-later, written-some}
 use Rattle.pm_top.proofs.taking.take_line.Goals as goal

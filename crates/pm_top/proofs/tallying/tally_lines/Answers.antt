@@ -1,7 +1,7 @@
 use Rattle.std.proofs.Common.{◌≡◌, ◌<◌, ◌^◌, ◌+◌, ◌∷◌, [], ℕ, List, length, Ok, Err, refl, sym, ◌∙◌, ap, subst, arith}
 use Rattle.pm_base.specs.Lines.{lines_of}
 use Rattle.pm_outside.specs.Feed.{left_to}
-use Rattle.pm_model.specs.Event.{events_of}
+use Rattle.pm_events.specs.Event.{events_of}
 use Rattle.pm_top.specs.Taking.{TakesLine, WritesLine}
 use Rattle.pm_top.specs.Finishing.{TakesLast, WritesLast}
 use Rattle.pm_top.specs.Outcome.{IsTallied}

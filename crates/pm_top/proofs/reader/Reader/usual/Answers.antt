@@ -1,5 +1,5 @@
 use Rattle.std.proofs.Common.{take, refl, ◌∙◌, ap}
-use Rattle.pm_model.specs.Event.{read_event}
+use Rattle.pm_events.specs.Event.{read_event}
 use Rattle.pm_top.proofs.ReaderLemmas.{in-front}
 use Rattle.pm_top.proofs.reader.Reader.usual.Goals as goal
 

@@ -1,0 +1,7 @@
+//! What holds of every body.
+ghost use Rattle.pm_asked.specs.BodyReading.{BodiesReadBack};
+
+/// The tree of a body within its ranges says that body. A law: the call does nothing.
+pub fn bodies_read_back()
+    ensures { BodiesReadBack }
+{}

@@ -1,0 +1,4 @@
+pub mod EventLineLemmas
+pub mod EventLemmas
+pub mod SameNamesLemmas
+pub mod SlotTableLemmas

@@ -1,0 +1,17 @@
+//! Events, the lines that carry them, and the table that finds their slots.
+#![tactic(auto)]
+
+mod event;
+mod event_line;
+mod named_slot;
+mod names_hash;
+mod same_names;
+mod slot_places;
+mod slot_table;
+
+pub use event::Event;
+pub use event_line::{EventLine, read_event_line};
+pub use slot_table::SlotTable;
+
+#[cfg(test)]
+mod tests;

@@ -1,0 +1,10 @@
+//! What happens to a producer, entry by entry, and what follows from it.
+#![tactic(auto)]
+
+mod entry;
+mod law;
+mod metric;
+
+pub use entry::{Entry, Side};
+pub use law::{crossings_agree, files_distinct, files_grow, notices_grow, sums_conserved};
+pub use metric::Metric;
