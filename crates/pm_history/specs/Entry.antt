@@ -20,7 +20,12 @@ moment_of (MonitorDeleted moment id) = moment
 moment_of (Subscribed moment id port path) = moment
 moment_of (Unsubscribed moment id) = moment
 
--- Whether it may stand behind an entry of an earlier moment.
+-- The value of an event; 0 of any other entry.
+abbrev pub value_of : Entry → ℕ
+value_of (Event moment object metric value registered) = value
+value_of _ = 0
+
+-- Whether it may come after an entry of an earlier moment.
 abbrev pub is_opening : Entry → Bool
 is_opening (Boot moment) = true
 is_opening (Now moment) = true

@@ -1,9 +1,10 @@
 -- A history: the entries of a producer, in order (this project's own).
 use Rattle.std.specs.Prelude.{ℕ, ◌+◌, ◌<◌, ◌≤◌, ◌≡◌, Bool, false, ◌&&◌, ◌||◌, List, [], ◌∷◌, if◌then◌else◌, nat_lt, nat_le}
-use Rattle.pm_base.specs.Moment.{tick_of}
+use Rattle.pm_base.specs.Moment.{IsMoment, tick_of}
+use Rattle.pm_meas.specs.declared.cell.TheConstants.{MAX_VALUE}
 use Rattle.pm_history.specs.declared.entry.Entry.{Entry}
 use Rattle.pm_history.specs.declared.entry.Entry.TheVariants.{Boot}
-use Rattle.pm_history.specs.Entry.{moment_of, is_opening}
+use Rattle.pm_history.specs.Entry.{moment_of, value_of, is_opening}
 
 infixl 45 ◌▷◌
 -- Nothing yet; or a history, and the entry that came next.
@@ -11,7 +12,7 @@ pub data History : Type 0 where
   Start : History
   ◌▷◌ : History → Entry → History
 
--- A history, and these entries behind it.
+-- A history, and these entries after it.
 abbrev pub grown : History → List Entry → History
 grown h [] = h
 grown h (e ∷ es) = grown (h ▷ e) es
@@ -30,8 +31,11 @@ abbrev pub last_moment : History → ℕ
 last_moment Start = 0
 last_moment (h ▷ e) = moment_of e
 
--- An entry may come next: moments never fall, and what is no Boot and no Now has the moment of the entry before it.
+-- An entry may come next: its moment is one, moments never fall, what is no Boot and no Now has the moment of the entry before it,
+-- and an event has a value that a cell takes.
 pub record MayFollow (h : History) (e : Entry) : Type 0 where
+  pub moment : IsMoment (moment_of e)
+  pub value : value_of e ≤ MAX_VALUE
   pub later : last_moment h ≤ moment_of e
   pub beside : is_opening e ≡ false → (0 < size h) × (moment_of e ≡ last_moment h)
 
