@@ -1,11 +1,14 @@
--- The tree of a body says that body.
+-- The tree of a body says that body, and only UTF-8 says one.
 use Rattle.std.proofs.Common.{◌≡◌, ℕ, ◌≤◌, Bool, true, false, ◌&&◌, cond, leb, List, [], ◌∷◌, length, Option, Some, None, refl, ap, ◌∙◌, arith, le-leb}
 use Rattle.std.proofs.lemmas.Bool.{cond-true, and_from}
 use Rattle.std.specs.List.{AllByRecursion}
 use Rattle.std.specs.Option.{option_map, option_and_then}
-use Rattle.serde_json.specs.Data.{number, string, array, unsigned}
+use Rattle.std.specs.Str.{IsUtf8, is_utf8}
+use Rattle.std.proofs.lemmas.Str.{IsUtf8-from_is_utf8}
+use Rattle.serde_json.specs.Data.{Data, number, string, array, unsigned}
+use Rattle.serde_json.specs.Read.{read}
 use Rattle.pm_asked.specs.Body.{Directions, Up, Down, UpAndDown, Threshold, JobBody, MonitorBody, text_items, state_text, directions_text, job_tree, threshold_tree, threshold_items, monitor_tree, IsJobBody, IsThreshold, IsMonitorBody}
-use Rattle.pm_asked.specs.BodyReading.{number_of, texts_of, list_of, state_of, directions_of, job_of, threshold_of, thresholds_of, threshold_list_of, monitor_of}
+use Rattle.pm_asked.specs.BodyReading.{number_of, texts_of, list_of, state_of, directions_of, job_of, threshold_of, thresholds_of, threshold_list_of, monitor_of, tree_of}
 
 within : {A : Type 0} (n most : ℕ) (a : A) → n ≤ most → cond (leb n most) (Some a) None ≡ Some a
 within n most a le = cond-true (leb n most) (Some a) None (le-leb n most le)
@@ -112,3 +115,13 @@ monitor_of-is body is =
     let roots = list_of-is 0 256 body.roots (omega arith) is.roots in
     let thresholds = threshold_list_of-is body.thresholds is.least is.most is.each in
     λ i. monitor_from (unlocked i) (granularity i) (objects i) (roots i) (thresholds i)
+
+-- ---- texts
+
+tested : {B : Type 0} (f : Data → Option B) (text : List ℕ) (body : B) (b : Bool) → is_utf8 text ≡ b → option_and_then f (cond b (read text) None) ≡ Some body → is_utf8 text ≡ true
+tested f text body true is says = is
+tested f text body false is says = cc
+
+-- Only UTF-8 says something.
+pub said-utf8 : {B : Type 0} (f : Data → Option B) (text : List ℕ) (body : B) → option_and_then f (tree_of text) ≡ Some body → IsUtf8 text
+said-utf8 f text body says = IsUtf8-from_is_utf8 text (tested f text body (is_utf8 text) refl says)

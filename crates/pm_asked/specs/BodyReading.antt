@@ -1,7 +1,7 @@
 -- What a JSON tree says as the body of a job or a monitor (this project's own).
-use Rattle.std.specs.Prelude.{◌≡◌, ℕ, ◌&&◌, Bool, true, false, List, [], ◌∷◌, length, codes, if◌then◌else◌, nat_le, Option, Some, None, option_map, option_and_then}
+use Rattle.std.specs.Prelude.{◌≡◌, ℕ, ◌&&◌, Bool, true, false, List, [], ◌∷◌, length, codes, if◌then◌else◌, nat_le, Option, Some, None, option_map, option_and_then, IsUtf8}
 use Rattle.std.specs.List.{list_any}
-use Rattle.std.specs.Str.{bytes_eq}
+use Rattle.std.specs.Str.{bytes_eq, is_utf8}
 use Rattle.serde_json.specs.Data.{Data, Items, no_items, item, Members, no_members, member}
 use Rattle.serde_json.specs.Find.{get_member, as_object, as_array, as_str, as_number, as_u64}
 use Rattle.serde_json.specs.Read.{read}
@@ -165,12 +165,22 @@ monitor_members ms =
 abbrev pub monitor_of : Data → Option MonitorBody
 monitor_of tree = option_and_then (λ ms. if has_only monitor_keys ms then monitor_members ms else None) (as_object tree)
 
+-- The tree of a text. Bytes that aren't UTF-8 are no JSON.
+abbrev pub tree_of : List ℕ → Option Data
+tree_of text = if is_utf8 text then read text else None
+
 -- What a text says as a body.
 abbrev pub job_body : List ℕ → Option JobBody
-job_body text = option_and_then job_of (read text)
+job_body text = option_and_then job_of (tree_of text)
 
 abbrev pub monitor_body : List ℕ → Option MonitorBody
-monitor_body text = option_and_then monitor_of (read text)
+monitor_body text = option_and_then monitor_of (tree_of text)
+
+-- Only UTF-8 says a body.
+abbrev pub BodiesAreText : Type 0
+BodiesAreText =
+    ((text : List ℕ) (body : JobBody) → job_body text ≡ Some body → IsUtf8 text)
+    × ((text : List ℕ) (body : MonitorBody) → monitor_body text ≡ Some body → IsUtf8 text)
 
 -- The tree of a body within its ranges says that body.
 abbrev pub BodiesReadBack : Type 0

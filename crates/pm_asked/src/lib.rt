@@ -3,4 +3,4 @@
 
 mod law;
 
-pub use law::bodies_read_back;
+pub use law::{bodies_are_text, bodies_read_back};
