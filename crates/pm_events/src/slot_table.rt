@@ -5,9 +5,9 @@ ghost use Rattle.pm_inventory.specs.Slot.{Slot, slot_place, registers_each_of, s
 ghost use Rattle.pm_inventory.specs.SlotNames.{slot_names, names_place, HasNoSpace, AreDistinct, AreWords};
 ghost use Rattle.pm_events.specs.SlotTableFields.{slot_of_named, Lists, IsTable};
 
+use crate::named_slot::NamedSlot;
 use crate::names_hash::hash_of;
 use crate::same_names::is_same;
-use crate::named_slot::NamedSlot;
 use crate::slot_places::{PLACES, SlotPlaces};
 use pm_base::Blob;
 use pm_dn::Tree;

@@ -36,7 +36,10 @@ fn a_slot_is_found_by_its_names(rt: HostRuntime) -> Result<(), Fail> {
         table.names(14),
         b"ManagedElement=ME1,GNBDUFunction=1,NRCellDU=7 VS.SetupTime".as_slice()
     );
-    assert_eq!(rt; (table.registers_each(13), table.registers_each(14)), (1, 3));
+    assert_eq!(rt;
+        (table.registers_each(13), table.registers_each(14)),
+        (1, 3)
+    );
     assert_eq!(rt; table.reduce(14), Reduce::Mean);
     Ok(())
 }

@@ -14,9 +14,9 @@ ghost use Rattle.pm_inventory.specs.InventoryReading.{ReadsInventory, EndsAt, st
 use crate::inventory::{InvError, Inventory};
 use crate::inventory_line::{LineError, take_line};
 use pm_base::Code;
-use pm_outside::{Feed, FeedError, Line, Source};
 use pm_dn::Tree;
 use pm_meas::Catalogue;
+use pm_outside::{Feed, FeedError, Line, Source};
 use std::alloc::Global;
 
 /// Why an inventory was not read.

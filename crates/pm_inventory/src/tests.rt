@@ -2,9 +2,9 @@
 
 use super::*;
 use pm_base::Code;
-use pm_outside::{Feed, Line, MemSource};
 use pm_dn::Tree;
 use pm_meas::Catalogue;
+use pm_outside::{Feed, Line, MemSource};
 use std::alloc::{AllocError, Global};
 use std::test::Fail;
 
@@ -111,8 +111,14 @@ fn a_line_is_refused_by_the_first_rule_broken(rt: HostRuntime) {
         (b"object ", Some(LineError::Refused(Code::N1))),
         (b"object NRCellCU=7", Some(LineError::Refused(Code::N6))),
         (b"object ManagedElement=ME1", None),
-        (b"object ManagedElement=ME1", Some(LineError::Refused(Code::N8))),
-        (b"object ManagedElement=ME2", Some(LineError::Refused(Code::N10))),
+        (
+            b"object ManagedElement=ME1",
+            Some(LineError::Refused(Code::N8)),
+        ),
+        (
+            b"object ManagedElement=ME2",
+            Some(LineError::Refused(Code::N10)),
+        ),
     ];
     for (line, want) in cases {
         let answer = take_line(&mut tree, &mut catalogue, line).err();

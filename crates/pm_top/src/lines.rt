@@ -11,9 +11,9 @@ ghost use Rattle.pm_top.specs.Counting.{Counts};
 use crate::counting::Counting;
 use itoa::Buffer;
 use pm_base::{TICK_SECONDS, tick};
-use pm_outside::Sink;
-use pm_meas::Cell;
 use pm_events::SlotTable;
+use pm_meas::Cell;
+use pm_outside::Sink;
 use std::alloc::AllocError;
 
 /// Why lines were not written.

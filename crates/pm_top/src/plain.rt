@@ -12,9 +12,9 @@ use crate::Status;
 use crate::plain_events::{GoodEvents, Refused, good_events, moment_of_last};
 use crate::plain_text::text_before;
 use pm_base::{Blob, Code, tick};
-use pm_outside::{Feed, MemSource};
 use pm_events::SlotTable;
 use pm_inventory::{InventoryError, ReadInventory, read_inventory};
+use pm_outside::{Feed, MemSource};
 use std::alloc::{AllocError, Global};
 
 /// How a tally ends that meets no fault, and what it has written then.

@@ -9,8 +9,8 @@ ghost use Rattle.pm_top.specs.Plain.{AreFew};
 
 use crate::lines::value_text;
 use pm_base::{TICK_SECONDS, tick};
-use pm_meas::plain::value_of;
 use pm_events::{Event, SlotTable};
+use pm_meas::plain::value_of;
 use std::alloc::{AllocError, Global};
 
 /// The lines of the ticks before this one, from the events that are registered.

@@ -11,8 +11,8 @@ use crate::counting::Counting;
 use crate::lines::{Fault, write_tick};
 use crate::reader::Reader;
 use pm_base::{Code, tick};
-use pm_outside::Sink;
 use pm_events::SlotTable;
+use pm_outside::Sink;
 
 /// Why a line was not counted.
 #[derive(Clone, Copy, Debug, PartialEq, Eq)]

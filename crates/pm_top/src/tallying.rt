@@ -17,9 +17,9 @@ use crate::next::{Next, next_line};
 use crate::reader::Reader;
 use crate::taking::take_line;
 use pm_base::Code;
-use pm_outside::{Feed, Sink, Source};
 use pm_events::SlotTable;
 use pm_inventory::{InventoryError, ReadInventory, read_inventory};
+use pm_outside::{Feed, Sink, Source};
 use std::alloc::Global;
 
 // The most bytes of an input.
