@@ -1,8 +1,8 @@
 //! The inventory of an input: its lines up to `end`, or the default inventory where `end` stands alone.
 use crate::stop::Stop;
 use pm_dn::Tree;
-use pm_meas::Catalogue;
 use pm_inventory::{InvError, Inventory, LineError, take_line};
+use pm_meas::Catalogue;
 use std::alloc::Global;
 
 /// An inventory in the making.
