@@ -21,11 +21,11 @@ use Rattle.pm_history.specs.Laws.{AreApart, AreDistinct}
 
 -- ---- of each element
 
-each-append : {A : Type 0} (P : A → Type 0) (xs ys : List A) → AllByRecursion P xs → AllByRecursion P ys → AllByRecursion P (xs ++ ys)
+pub each-append : {A : Type 0} (P : A → Type 0) (xs ys : List A) → AllByRecursion P xs → AllByRecursion P ys → AllByRecursion P (xs ++ ys)
 each-append P [] ys one other = other
 each-append P (x ∷ xs) ys one other = (one.0, each-append P xs ys one.1 other)
 
-each-map : {A : Type 0} (P Q : A → Type 0) (xs : List A) → ((x : A) → P x → Q x) → AllByRecursion P xs → AllByRecursion Q xs
+pub each-map : {A : Type 0} (P Q : A → Type 0) (xs : List A) → ((x : A) → P x → Q x) → AllByRecursion P xs → AllByRecursion Q xs
 each-map P Q [] f all = tt
 each-map P Q (x ∷ xs) f all = (f x all.0, each-map P Q xs f all.1)
 
@@ -149,7 +149,7 @@ module _ (terms : Side → List ℕ → Terms) where
       (λ id any. each-map (IsOf id end) (λ f. f.end ≡ end) (file_at terms h end id) (λ f of_id. of_id.0) (file_at-is h end id))
       (all-true (λ id. Unit {0}) (ids_after Job (before (60 * end) h)) (λ id. tt))
 
-  behind-ends : (h : History) (t n : ℕ) → AllByRecursion (λ f. f.end ≤ t + n) (behind (files_at terms h) t n)
+  pub behind-ends : (h : History) (t n : ℕ) → AllByRecursion (λ f. f.end ≤ t + n) (behind (files_at terms h) t n)
   behind-ends h t zero = tt
   behind-ends h t (suc n) =
       each-append (λ f. f.end ≤ t + suc n) (behind (files_at terms h) t n) (files_at terms h (suc (t + n)))

@@ -5,5 +5,6 @@ pub mod StandingLemmas
 pub mod StepLemmas
 pub mod CrossedLemmas
 pub mod DistinctLemmas
+pub mod RangeLemmas
 pub mod SumLemmas
 pub mod ConservedLemmas

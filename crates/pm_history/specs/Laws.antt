@@ -1,11 +1,14 @@
 -- Laws over histories, whatever bodies ask for.
-use Rattle.std.specs.Prelude.{ℕ, ◌≡◌, ◌↔◌, List, [], ◌∷◌, true}
+use Rattle.std.specs.Prelude.{ℕ, ◌*◌, ◌≡◌, ◌≤◌, ◌↔◌, Bool, List, [], ◌∷◌, true}
 use Rattle.std.specs.List.{AllByRecursion}
 use mathlib.Core.List.{IsPrefix}
+use Rattle.pm_base.specs.Moment.{IsMoment}
+use Rattle.pm_meas.specs.declared.cell.TheConstants.{MAX_VALUE}
 use Rattle.pm_history.specs.declared.entry.Side.{Side}
 use Rattle.pm_history.specs.declared.entry.Entry.{Entry}
-use Rattle.pm_history.specs.History.{History, ◌▷◌, MayFollow}
+use Rattle.pm_history.specs.History.{History, ◌▷◌, MayFollow, IsHistory}
 use Rattle.pm_history.specs.Terms.{Terms}
+use Rattle.pm_history.specs.Value.{values_where}
 use Rattle.pm_history.specs.Files.{Report, files_of}
 use Rattle.pm_history.specs.Notices.{notices_of}
 use Rattle.pm_history.specs.Crossing.{CrossesUp, CrossesDown}
@@ -31,6 +34,18 @@ AreDistinct (f ∷ fs) = AllByRecursion (AreApart f) fs × AreDistinct fs
 -- The files of a history are distinct by end and id.
 abbrev pub FilesDistinct : Type 0
 FilesDistinct = (terms : Side → List ℕ → Terms) (h : History) → AreDistinct (files_of terms h)
+
+-- The ends of files are moments.
+abbrev pub EndsInRange : Type 0
+EndsInRange =
+    (terms : Side → List ℕ → Terms) (h : History) → IsHistory h → AllByRecursion (λ (f : Report). IsMoment (60 * f.end)) (files_of terms h)
+
+-- The values of events are ones that a cell takes.
+abbrev pub ValuesInRange : Type 0
+ValuesInRange =
+    (h : History) (object metric : ℕ) (passes : ℕ → Bool)
+    → IsHistory h
+    → AllByRecursion (λ value. value ≤ MAX_VALUE) (values_where object metric passes h)
 
 -- The tests of crossings hold exactly where the relations do.
 abbrev pub CrossingsAgree : Type 0

@@ -1,6 +1,6 @@
 //! What holds of every history, whatever its bodies ask for.
 ghost use Rattle.pm_history.specs.Conserved.{SumsConserved};
-ghost use Rattle.pm_history.specs.Laws.{CrossingsAgree, FilesDistinct, FilesGrow, NoticesGrow};
+ghost use Rattle.pm_history.specs.Laws.{CrossingsAgree, EndsInRange, FilesDistinct, FilesGrow, NoticesGrow, ValuesInRange};
 
 /// An entry that may come next leaves the files as they are, and adds its own behind them. A law: the call does nothing.
 pub fn files_grow()
@@ -15,6 +15,16 @@ pub fn notices_grow()
 /// Of any two files of a history the ends or the ids differ. A law: the call does nothing.
 pub fn files_distinct()
     ensures { FilesDistinct }
+{}
+
+/// The ends of the files of a history are moments, so each of them has a name. A law: the call does nothing.
+pub fn ends_in_range()
+    ensures { EndsInRange }
+{}
+
+/// The values of the events of a history are ones that a cell takes. A law: the call does nothing.
+pub fn values_in_range()
+    ensures { ValuesInRange }
 {}
 
 /// A crossing as the notices find it stands exactly where the definition on whole sequences has one. A law: the call does nothing.

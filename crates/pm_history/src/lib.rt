@@ -6,5 +6,8 @@ mod law;
 mod metric;
 
 pub use entry::{Entry, Side};
-pub use law::{crossings_agree, files_distinct, files_grow, notices_grow, sums_conserved};
+pub use law::{
+    crossings_agree, ends_in_range, files_distinct, files_grow, notices_grow, sums_conserved,
+    values_in_range,
+};
 pub use metric::Metric;
