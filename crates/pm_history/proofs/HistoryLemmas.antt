@@ -1,4 +1,4 @@
--- What an entry behind a history leaves as it was: what is said of moments that it doesn't come before, and of ticks that are over.
+-- What an entry after a history leaves as it was: what is said of moments that it doesn't come before, and of ticks that are over.
 use Rattle.std.proofs.Common.{◌≡◌, ℕ, ◌<◌, ◌≤◌, ◌∙◌, sym, false, ltb, leb, refl, arith, lt-ltb, le-ltb, List, [], ◌∷◌, ◌++◌, ap, ◌+◌, length, get_or, take}
 use Rattle.std.proofs.lemmas.Bool.{cond-true, cond-false, lt-leb, and_right}
 use Rattle.std.proofs.lemmas.List.{take_more}
@@ -36,12 +36,12 @@ cuts-over h _ t le lt = refl
 pub is_cut-stays : (h : History) (e : Entry) (t : ℕ) → last_moment h ≤ moment_of e → t < tick_of (last_moment h) → is_cut (h ▷ e) t ≡ is_cut h t
 is_cut-stays h e t le lt = or_false (is_cut h t) (cuts h e t) (cuts-over h e t le lt)
 
--- nothing cuts a tick behind its own
+-- nothing cuts a tick after its own
 cuts-past : (h : History) (e : Entry) (t : ℕ) → tick_of (moment_of e) < t → cuts h e t ≡ false
 cuts-past h (Boot m) t lt = and_right (leb (first_cut h m) t) _ (lt-leb t (tick_of m) lt)
 cuts-past h _ t lt = refl
 
--- no Boot cuts a tick behind that of the last moment
+-- no Boot cuts a tick after that of the last moment
 pub is_cut-past : (h : History) (t : ℕ) → IsHistory h → tick_of (last_moment h) < t → is_cut h t ≡ false
 is_cut-past Start t is lt = refl
 is_cut-past (h ▷ e) t is lt =

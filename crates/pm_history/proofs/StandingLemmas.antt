@@ -15,7 +15,7 @@ use Rattle.pm_history.specs.Counted.{is_on, is_touched, is_counted}
 use Rattle.pm_history.proofs.TickLemmas.{or_false}
 use Rattle.pm_history.proofs.HistoryLemmas.{before-stays}
 
--- How it came to stand behind an entry: it stood, and the entry is not under its id; or the entry made it; or it stood, and the entry
+-- How it came to stand after an entry: it stood, and the entry is not under its id; or the entry made it; or it stood, and the entry
 -- changed its state.
 pub data Came (side : Side) (id : List ℕ) (place : ℕ) (old : Option Standing) (e : Entry) (s : Standing) : Type 0 where
   Kept : is_some (change_of side id e) ≡ false → old ≡ Some s → Came side id place old e s

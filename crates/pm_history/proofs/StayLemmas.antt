@@ -156,7 +156,7 @@ module _ (terms : Side → List ℕ → Terms) where
       ap (λ b. flat_map (λ id. file_of terms (h ▷ e) id end (standing_after terms Job b id)) (ids_after Job b)) begun
       ∙ flat_map-same _ _ (ids_after Job (before (60 * end) h)) (λ id. file_of-stays h e id end (standing_after terms Job (before (60 * end) h) id) le within)
 
-  -- an entry behind a history leaves its files, and more may come behind them
+  -- an entry after a history leaves its files, and more may come after them
   pub files_of-next : (h : History) (e : Entry) → last_moment h ≤ moment_of e
       → files_of terms (h ▷ e) ≡ files_of terms h ++ behind (files_at terms (h ▷ e)) (tick_of (last_moment h)) (tick_of (moment_of e) - tick_of (last_moment h))
   files_of-next h e le =
@@ -221,7 +221,7 @@ module _ (terms : Side → List ℕ → Terms) where
       let crossings = crossings_at-stays h e end le within in
       λ i. map FileReady (files i) ++ map Crossing (crossings i)
 
-  -- an entry behind a history leaves its notices, and more may come behind them
+  -- an entry after a history leaves its notices, and more may come after them
   pub notices_of-next : (h : History) (e : Entry) → last_moment h ≤ moment_of e
       → notices_of terms (h ▷ e) ≡ notices_of terms h ++ behind (notices_at terms (h ▷ e)) (tick_of (last_moment h)) (tick_of (moment_of e) - tick_of (last_moment h))
   notices_of-next h e le =

@@ -27,7 +27,7 @@ values_where-now o m p h k = append-nil (values_where o m p h)
 pub values_where-boot : (o m : ℕ) (p : ℕ → Bool) (h : History) (k : ℕ) → values_where o m p (h ▷ Boot k) ≡ values_where o m p h
 values_where-boot o m p h k = append-nil (values_where o m p h)
 
--- ---- what stands, behind entries that change nothing of it
+-- ---- what stands, after entries that change nothing of it
 
 pub ids_after-now : (side : Side) (h : History) (m : ℕ) → ids_after side (h ▷ Now m) ≡ ids_after side h
 ids_after-now Job h m = refl

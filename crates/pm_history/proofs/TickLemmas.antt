@@ -34,7 +34,7 @@ is_within-true first n t passes =
 pub is_within-past : (first n t : ℕ) → first + n ≤ t → is_within first n t ≡ false
 is_within-past first n t past = and_right (leb first t) (ltb t (first + n)) (le-ltb _ _ past)
 
--- what is said alike at the n ticks behind one
+-- what is said alike at the n ticks after one
 pub behind-same : {A : Type 0} (f g : ℕ → List A) (t n : ℕ) → ((k : ℕ) → t < k → k ≤ t + n → f k ≡ g k) → behind f t n ≡ behind g t n
 behind-same f g t zero same = refl
 behind-same f g t (suc n) same =
@@ -42,7 +42,7 @@ behind-same f g t (suc n) same =
     let this = same (suc (t + n)) (omega arith) (omega arith) in
     λ i. rest i ++ this i
 
--- ticks behind those behind one
+-- ticks after those after one
 pub behind-add : {A : Type 0} (f : ℕ → List A) (t n k : ℕ) → behind f t (n + k) ≡ behind f t n ++ behind f (t + n) k
 behind-add f t n zero = let same : n + zero ≡ n = omega arith in ap (behind f t) same ∙ sym (append-nil (behind f t n))
 behind-add f t n (suc k) =
@@ -51,7 +51,7 @@ behind-add f t n (suc k) =
     ap (behind f t) next
     ∙ ((λ i. behind-add f t n k i ++ f (at i)) ∙ append_assoc (behind f t n) (behind f (t + n) k) (f (suc (t + n + k))))
 
--- where nothing is said at the n ticks behind one
+-- where nothing is said at the n ticks after one
 pub behind-none : {A : Type 0} (f : ℕ → List A) (t n : ℕ) → ((k : ℕ) → t < k → k ≤ t + n → f k ≡ []) → behind f t n ≡ []
 behind-none f t zero none = refl
 behind-none f t (suc n) none =

@@ -11,7 +11,7 @@ use Rattle.pm_history.specs.Ticks.{at_some, at_each}
 use Rattle.pm_history.specs.Standing.{Making, stands, runs, standing_after}
 
 module _ (terms : Side → List ℕ → Terms) where
-  -- Whether the entry behind h makes, changes or deletes what was made here.
+  -- Whether the entry after h makes, changes or deletes what was made here.
   abbrev pub is_on : Making → History → Entry → Bool
   is_on w h e =
       is_some (change_of w.side w.id e) && (stands w.place (standing_after terms w.side h w.id) || stands w.place (standing_after terms w.side (h ▷ e) w.id))

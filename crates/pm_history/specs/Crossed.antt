@@ -24,7 +24,7 @@ abbrev pub is_raised_before : ℕ → ℕ → List ℕ → ℕ → Bool
 is_raised_before high low values end =
     at_some end (λ j. nat_le high (slice_index values j) && nat_lt low (slice_index values j) && stays_over low values j end)
 
--- Whether an upward, or a downward, crossing stands at a place.
+-- Whether an upward, or a downward, crossing is at a place.
 abbrev pub crosses_up : ℕ → ℕ → List ℕ → ℕ → Bool
 crosses_up high low values place =
     nat_lt place (length values) && nat_le high (slice_index values place) && is_rearmed_before high low values place
@@ -33,7 +33,7 @@ abbrev pub crosses_down : ℕ → ℕ → List ℕ → ℕ → Bool
 crosses_down high low values place =
     nat_lt place (length values) && nat_le (slice_index values place) low && is_raised_before high low values place
 
--- The kept crossing at a place: Some true for one upward, Some false for one downward. The two never stand at one place.
+-- The kept crossing at a place: Some true for one upward, Some false for one downward. The two are never at one place.
 abbrev pub crossing_in : ℕ → ℕ → Bool → Bool → List ℕ → ℕ → Option Bool
 crossing_in high low up down values place =
     if up && crosses_up high low values place then Some true

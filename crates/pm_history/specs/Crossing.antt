@@ -22,13 +22,13 @@ pub record IsRaisedBefore (high low : ℕ) (values : List ℕ) (end : ℕ) : Typ
   pub over_low : low < slice_index values place
   pub none_low : (k : ℕ) → place < k → k < end → low < slice_index values k
 
--- an upward crossing stands at a place
+-- an upward crossing is at a place
 pub record CrossesUp (high low : ℕ) (values : List ℕ) (place : ℕ) : Type 0 where
   pub within : place < length values
   pub at_least_high : high ≤ slice_index values place
   pub rearmed : IsRearmedBefore high low values place
 
--- a downward crossing stands at a place
+-- a downward crossing is at a place
 pub record CrossesDown (high low : ℕ) (values : List ℕ) (place : ℕ) : Type 0 where
   pub within : place < length values
   pub at_most_low : slice_index values place ≤ low
@@ -47,7 +47,7 @@ pub record AreFlags (high low : ℕ) (values : List ℕ) (flags : ℕ) : Type 0 
   pub rearmed : Counts 1 (IsRearmedBefore high low values (length values)) first
   pub raised : Counts 2 (IsRaisedBefore high low values (length values)) second
 
--- at no place do both crossings stand
+-- at no place are both crossings
 abbrev pub NeverBoth : Type 0
 NeverBoth = (high low : ℕ) (values : List ℕ) (place : ℕ) → CrossesUp high low values place → CrossesDown high low values place → ⊥
 

@@ -1,5 +1,5 @@
 -- A history: the entries of a producer, in order (this project's own).
-use Rattle.std.specs.Prelude.{ℕ, ◌+◌, ◌<◌, ◌≤◌, ◌≡◌, Bool, false, ◌&&◌, ◌||◌, List, [], ◌∷◌, if◌then◌else◌, nat_lt, nat_le}
+use Rattle.std.specs.Prelude.{ℕ, ◌+◌, ◌<◌, ◌≤◌, ◌≡◌, Bool, false, ◌&&◌, ◌||◌, List, [], ◌∷◌, Option, Some, None, if◌then◌else◌, nat_lt, nat_le}
 use Rattle.pm_base.specs.Moment.{IsMoment, tick_of}
 use Rattle.pm_meas.specs.declared.cell.TheConstants.{MAX_VALUE}
 use Rattle.pm_history.specs.declared.entry.Entry.{Entry}
@@ -39,6 +39,11 @@ pub record MayFollow (h : History) (e : Entry) : Type 0 where
   pub later : last_moment h ≤ moment_of e
   pub beside : is_opening e ≡ false → (0 < size h) × (moment_of e ≡ last_moment h)
 
+-- The moment of the last entry; none where there is no entry.
+abbrev pub EndsAt : History → Option ℕ → Type 0
+EndsAt h None = h ≡ Start
+EndsAt h (Some moment) = (0 < size h) × (last_moment h ≡ moment)
+
 -- Each entry was one that may come next.
 abbrev pub IsHistory : History → Type 0
 IsHistory Start = Unit {0}
@@ -53,12 +58,12 @@ before moment (h ▷ e) = if nat_lt (moment_of e) moment then h ▷ e else befor
 abbrev pub is_over : History → ℕ → Bool
 is_over h tick = nat_lt tick (tick_of (last_moment h))
 
--- The first tick that a Boot behind a history cuts: that of the moment before it, or its own where it is the first entry.
+-- The first tick that a Boot after a history cuts: that of the moment before it, or its own where it is the first entry.
 abbrev pub first_cut : History → ℕ → ℕ
 first_cut Start moment = tick_of moment
 first_cut (h ▷ e) moment = tick_of (moment_of e)
 
--- Whether the entry behind h is a Boot that cuts the tick: it cuts from its first tick to its own, both included.
+-- Whether the entry after h is a Boot that cuts the tick: it cuts from its first tick to its own, both included.
 abbrev pub cuts : History → Entry → ℕ → Bool
 cuts h (Boot moment) tick = nat_le (first_cut h moment) tick && nat_le tick (tick_of moment)
 cuts h _ tick = false

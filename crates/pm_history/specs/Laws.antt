@@ -14,11 +14,11 @@ use Rattle.pm_history.specs.Notices.{notices_of}
 use Rattle.pm_history.specs.Crossing.{CrossesUp, CrossesDown}
 use Rattle.pm_history.specs.Crossed.{crosses_up, crosses_down}
 
--- Whatever comes next, files are only added behind those that are there.
+-- Whatever comes next, files are only added after those that are there.
 abbrev pub FilesGrow : Type 0
 FilesGrow = (terms : Side → List ℕ → Terms) (h : History) (e : Entry) → MayFollow h e → IsPrefix (files_of terms h) (files_of terms (h ▷ e))
 
--- Whatever comes next, notices are only added behind those that are there.
+-- Whatever comes next, notices are only added after those that are there.
 abbrev pub NoticesGrow : Type 0
 NoticesGrow = (terms : Side → List ℕ → Terms) (h : History) (e : Entry) → MayFollow h e → IsPrefix (notices_of terms h) (notices_of terms (h ▷ e))
 

@@ -15,7 +15,7 @@ at_each (suc n) test = at_each n test && test n
 abbrev pub is_within : ℕ → ℕ → ℕ → Bool
 is_within first ticks tick = nat_le first tick && nat_lt tick (first + ticks)
 
--- What is said at each of the n ticks behind this one, joined in order.
+-- What is said at each of the n ticks after this one, joined in order.
 abbrev pub behind : {A : Type 0} → (ℕ → List A) → ℕ → ℕ → List A
 behind said tick zero = []
 behind said tick (suc n) = behind said tick n ++ said (suc (tick + n))

@@ -1,8 +1,10 @@
 //! The entries of a history: what happened to a producer, one by one.
-ghost use Rattle.std.specs.Prelude.{◌≡◌};
-ghost use Rattle.pm_history.specs.Entry.{moment_of};
+ghost use Rattle.std.specs.Prelude.{◌≡◌, ◌↔◌, IsTrue};
+ghost use Rattle.pm_history.specs.Entry.{moment_of, value_of, is_opening};
+ghost use Rattle.pm_history.specs.History.{History, MayFollow, EndsAt};
 
-use pm_base::{Blob, Text};
+use pm_base::{Blob, LAST_MOMENT, Text};
+use pm_meas::MAX_VALUE;
 
 /// Jobs and monitors, the two kinds of managed object that a consumer makes: PerfMetricJob and ThresholdMonitor of TS 28.622.
 #[derive(Clone, Copy, Debug, PartialEq, Eq)]
@@ -91,6 +93,41 @@ impl Entry {
             | Entry::MonitorDeleted { moment, .. }
             | Entry::Subscribed { moment, .. }
             | Entry::Unsubscribed { moment, .. } => *moment,
+        }
+    }
+
+    // The value of an event; 0 of any other entry.
+    fn value(&self) -> u32
+        ensures { result ≡ value_of self.now }
+    {
+        match self {
+            Entry::Event { value, .. } => *value,
+            _ => 0,
+        }
+    }
+
+    // Whether it may come after an entry of an earlier moment.
+    fn is_opening(&self) -> bool
+        ensures { result ≡ is_opening self.now }
+    {
+        match self {
+            Entry::Boot { .. } | Entry::Now { .. } => true,
+            _ => false,
+        }
+    }
+
+    /// Whether it may come next after a history whose last entry has this moment; none where the history has no entry.
+    pub fn may_follow(&self, last: Option<u64>) -> bool
+        ensures { (h : History) → EndsAt h last → (IsTrue result ↔ MayFollow h self.now) }
+    {
+        let moment = self.moment();
+        if moment > LAST_MOMENT || self.value() > MAX_VALUE {
+            return false;
+        }
+        match last {
+            Some(last) if last == moment => true,
+            Some(last) if last > moment => false,
+            _ => self.is_opening(),
         }
     }
 }

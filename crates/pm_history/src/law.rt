@@ -2,12 +2,12 @@
 ghost use Rattle.pm_history.specs.Conserved.{SumsConserved};
 ghost use Rattle.pm_history.specs.Laws.{CrossingsAgree, EndsInRange, FilesDistinct, FilesGrow, NoticesGrow, ValuesInRange};
 
-/// An entry that may come next leaves the files as they are, and adds its own behind them. A law: the call does nothing.
+/// An entry that may come next leaves the files as they are, and adds its own after them. A law: the call does nothing.
 pub fn files_grow()
     ensures { FilesGrow }
 {}
 
-/// An entry that may come next leaves the notices as they are, and adds its own behind them. A law: the call does nothing.
+/// An entry that may come next leaves the notices as they are, and adds its own after them. A law: the call does nothing.
 pub fn notices_grow()
     ensures { NoticesGrow }
 {}
@@ -27,7 +27,7 @@ pub fn values_in_range()
     ensures { ValuesInRange }
 {}
 
-/// A crossing as the notices find it stands exactly where the definition on whole sequences has one. A law: the call does nothing.
+/// A crossing as the notices find it exists exactly where the definition on whole sequences has one. A law: the call does nothing.
 pub fn crossings_agree()
     ensures { CrossingsAgree }
 {}
