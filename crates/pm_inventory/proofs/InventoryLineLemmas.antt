@@ -1,5 +1,5 @@
 -- A line of an inventory adds one thing, or is refused by one code.
-use Rattle.std.proofs.Common.{◌≡◌, ◌≢◌, ◌<◌, ◌++◌, ℕ, true, List, [], ◌∷◌, length, drop, get_or, codes, Some, None, inl, inr, refl, sym, ◌∙◌, ap, subst, arith}
+use Rattle.std.proofs.Common.{◌≡◌, ◌≢◌, ◌<◌, ◌≤◌, ◌++◌, ℕ, true, List, [], ◌∷◌, length, drop, get_or, codes, Some, None, inl, inr, refl, sym, ◌∙◌, ap, subst, arith}
 use Rattle.std.specs.Str.{bytes_eq}
 use Rattle.std.proofs.lemmas.Fmt.{decimal_injective}
 use Rattle.std.proofs.lemmas.List.{append_cancel_left}
@@ -10,7 +10,7 @@ use Rattle.pm_base.specs.declared.class.Class.TheVariants.{ManagedElement, GnbCu
 use Rattle.pm_base.specs.Lines.{MOST_LINE}
 use Rattle.pm_base.specs.Pieces.{words_of}
 use Rattle.pm_base.specs.declared.code.Code.{Code}
-use Rattle.pm_dn.specs.Tree.{add_refusal}
+use Rattle.pm_dn.specs.Tree.{add_refusal, tree_code}
 use Rattle.pm_meas.specs.declared.kind.Kind.{Kind}
 use Rattle.pm_meas.specs.declared.kind.Kind.TheVariants.{Cc, Gauge, Der, Si}
 use Rattle.pm_meas.specs.declared.kind.Reduce.{Reduce}
@@ -19,10 +19,10 @@ use Rattle.pm_meas.specs.declared.def.Def.{Def}
 use Rattle.pm_meas.specs.declared.error.MeasError.{MeasError}
 use Rattle.pm_meas.specs.declared.error.MeasError.TheVariants as meas
 use Rattle.pm_meas.specs.Def.{ReadAs, IsKind, kind_word, reduce_word, number_words, def_words}
-use Rattle.pm_meas.specs.Catalogue.{Adds, Breaks}
+use Rattle.pm_meas.specs.Catalogue.{Adds, Breaks, meas_code}
 use Rattle.pm_meas.proofs.BreaksLemmas.{Breaks-one, Breaks-Memory}
 use Rattle.pm_inventory.specs.Inventory.{InventoryState, object_line, end_line}
-use Rattle.pm_inventory.specs.InventoryLine.{AddsLine, RefusesLine, tree_code, meas_code, words_line}
+use Rattle.pm_inventory.specs.InventoryLine.{AddsLine, RefusesLine, words_line}
 use Rattle.pm_inventory.specs.InventoryReading.{AddsShort, RefusesEnd, RefusesNext}
 use Rattle.pm_inventory.specs.declared.inventory_line.LineError.TheVariants as stop
 
@@ -162,14 +162,42 @@ RefusesLine-one old line c d (inr (inr r)) (inl s) = absurd (r.0.object s.0 s.1)
 RefusesLine-one old line c d (inr (inr r)) (inr (inl s)) = absurd (r.0.measure s.0 s.1)
 RefusesLine-one old line c d (inr (inr r)) (inr (inr s)) = let one = r.1 in let two = s.1 in let both : stop.Refused c ≡ stop.Refused d = one ∙ sym two in cc
 
+-- a line that breaks no rule isn't refused
+RefusesLine-memory : (old : InventoryState) (line : List ℕ) (c : Code) → RefusesLine old line stop.Memory → RefusesLine old line (stop.Refused c) → ⊥
+RefusesLine-memory old line c (inl r) (inl s) =
+    let name : r.0 ≡ s.0 = same-name r.0 s.0 (sym r.1 ∙ s.1) in
+    let none : add_refusal old.objects s.0 ≡ None = ap (add_refusal old.objects) (sym name) ∙ r.2 in
+    let some : add_refusal old.objects s.0 ≡ Some s.2.0 = s.2.1 in cc
+RefusesLine-memory old line c (inl r) (inr (inl s)) = object-no_measure r.0 s.0 (sym r.1 ∙ s.1)
+RefusesLine-memory old line c (inl r) (inr (inr s)) = s.0.object r.0 r.1
+RefusesLine-memory old line c (inr (inl r)) (inl s) = object-no_measure s.0 r.0 (sym s.1 ∙ r.1)
+RefusesLine-memory old line c (inr (inl r)) (inr (inl s)) =
+    let words : r.0 ≡ s.0 = same-words r.0 s.0 (sym r.1 ∙ s.1) in
+    let none = subst (λ (w : List ℕ). Breaks old.measures (words_of w) meas.Memory) words r.2 in
+    s.2.1 (Breaks-one old.measures (words_of s.0) s.2.0 meas.Memory s.2.2 none)
+RefusesLine-memory old line c (inr (inl r)) (inr (inr s)) = s.0.measure r.0 r.1
+RefusesLine-memory old line c (inr (inr r)) s = let why = r.1 in cc
+
+-- A line of an inventory that breaks no rule isn't refused.
+pub RefusesNext-memory : (many : ℕ) (old : InventoryState) (line : List ℕ) (c : Code) → length line ≤ MOST_LINE → line ≢ end_line → RefusesLine old line stop.Memory → RefusesNext many old line c → ⊥
+RefusesNext-memory many old line c short other none (inl long) = omega (arith, short, long.0)
+RefusesNext-memory many old line c short other none (inr (inl end)) = other end.1
+RefusesNext-memory many old line c short other none (inr (inr refused)) = RefusesLine-memory old line c none refused.2
+
+pub end-short : (line : List ℕ) → line ≡ end_line → MOST_LINE < length line → ⊥
+end-short line end long = let three : length line ≡ 3 = ap length end in omega (arith, three, long)
+
+-- `end` is refused by no code where it isn't as the end.
+pub RefusesNext-end : (many : ℕ) (old : InventoryState) (line : List ℕ) (c : Code) → line ≡ end_line → (0 < many → RefusesEnd old c → ⊥) → RefusesNext many old line c → ⊥
+RefusesNext-end many old line c end none (inl long) = end-short line end long.0
+RefusesNext-end many old line c end none (inr (inl refused)) = none refused.0 refused.2
+RefusesNext-end many old line c end none (inr (inr other)) = other.1 end
+
 RefusesEnd-one : (old : InventoryState) (c d : Code) → RefusesEnd old c → RefusesEnd old d → c ≡ d
 RefusesEnd-one old c d (inl r) (inl s) = r.0 ∙ sym s.0
 RefusesEnd-one old c d (inl r) (inr s) = absurd (r.1 s.1)
 RefusesEnd-one old c d (inr r) (inl s) = absurd (s.1 r.1)
 RefusesEnd-one old c d (inr r) (inr s) = r.0 ∙ sym s.0
-
-pub end-short : (line : List ℕ) → line ≡ end_line → MOST_LINE < length line → ⊥
-end-short line end long = let three : length line ≡ 3 = ap length end in omega (arith, three, long)
 
 -- A line is refused by one code.
 pub RefusesNext-one : (many more : ℕ) (old : InventoryState) (line : List ℕ) (c d : Code) → RefusesNext many old line c → RefusesNext more old line d → c ≡ d

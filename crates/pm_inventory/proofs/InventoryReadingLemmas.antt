@@ -14,6 +14,7 @@ use Rattle.pm_inventory.specs.declared.inventory_line.LineError.TheVariants as s
 use Rattle.pm_inventory.specs.declared.inventory_reading.ReadInventory.{ReadInventory}
 use Rattle.pm_inventory.specs.declared.inventory_reading.InventoryError.{InventoryError}
 use Rattle.pm_inventory.specs.declared.inventory_reading.InventoryError.TheVariants as error
+use Rattle.pm_inventory.proofs.InventoryLineLemmas.{RefusesNext-memory, RefusesNext-end}
 use Rattle.pm_inventory.proofs.WholeLinesLemmas.{takes-none, takes-next}
 
 -- One more line behind others.
@@ -72,7 +73,14 @@ read-cut before after state many so_far = record { good = so_far.good; state = s
 pub read-stopped : (before middle after line : List ℕ) (state : InventoryState) (many : ℕ) (why : LineError) → IsReadSoFar before middle state many → IsFirstLine middle line after → line ≢ end_line → RefusesLine state line why → ReadsInventory before after (Err (stop_error (many + 1) why))
 read-stopped before middle after line state many (stop.Refused code) so_far first other refused =
     refused_at before middle (lines_of after) line state many code so_far (lines_of-next middle line after first) (inr (inr (first.short, other, refused)))
-read-stopped before middle after line state many stop.Memory so_far first other refused = tt
+read-stopped before middle after line state many stop.Memory so_far first other unrefused = record {
+  good = so_far.good;
+  state = state;
+  line = line;
+  taken = takes-next before middle after line so_far.good so_far.taken first;
+  adds = so_far.adds;
+  unbroken = λ code. RefusesNext-memory (length so_far.good) state line code first.short other unrefused;
+}
 
 none_of : (lines : List (List ℕ)) → length lines ≡ 0 → lines ≡ []
 none_of [] none = refl
@@ -105,4 +113,11 @@ read-ended before middle after line state many (Err (error.Refused number code))
     subst (λ (n : ℕ). IsInventoryRefusal (lines_of before) n code) (sym ends.0) (refused_at before middle (lines_of after) line state many code so_far (lines_of-next middle line after first) (inr (inl (omega (arith, ends.1), end, ends.2))))
 read-ended before middle after line state many (Err error.Failed) so_far first end ends = absurd ends
 read-ended before middle after line state many (Err error.Limit) so_far first end ends = absurd ends
-read-ended before middle after line state many (Err error.Memory) so_far first end ends = tt
+read-ended before middle after line state many (Err error.Memory) so_far first end ends = record {
+  good = so_far.good;
+  state = state;
+  line = line;
+  taken = takes-next before middle after line so_far.good so_far.taken first;
+  adds = so_far.adds;
+  unbroken = λ code. RefusesNext-end (length so_far.good) state line code end (λ some. ends code (omega (arith, some, so_far.counted)));
+}

@@ -5,6 +5,6 @@ pub mod EventSlotLemmas
 pub mod InventoryTextLemmas
 pub mod DefaultLemmas
 pub mod WholeLinesLemmas
-pub mod InventoryReadingLemmas
 pub mod InventoryLineLemmas
+pub mod InventoryReadingLemmas
 pub mod InventoryLawLemmas

@@ -145,23 +145,6 @@ slots-apart tree (def ∷ defs) is apart =
     subst (λ l. AllPairs (λ a b. a ≢ b) l) (sym (map-append slot_names (slots_of_def tree def) (flat_map (slots_of_def tree) defs)))
     (AllPairs-append (λ a b. a ≢ b) block rest (metric-apart tree def is) later cross)
 
-many-from : (tree : List (List ℕ)) (n : ℕ) (defs : List Def) → length (flat_map (slots_of_def tree) defs) ≡ length (flat_map (slots_of_metric tree) (enumerate_from n defs))
-many-from tree n [] = refl
-many-from tree n (def ∷ defs) =
-    let objects = objects_of tree def.class in
-    omega (
-      arith,
-      length-append (slots_of_def tree def) (flat_map (slots_of_def tree) defs),
-      length-append (slots_of_metric tree (n, def)) (flat_map (slots_of_metric tree) (enumerate_from (n + 1) defs)),
-      length-map objects (slot_of tree def),
-      length-map objects (key_of n),
-      many-from tree (n + 1) defs,
-    )
-
--- There are as many as the inventory has slots.
-pub length-slots : (tree : List (List ℕ)) (defs : List Def) → length (flat_map (slots_of_def tree) defs) ≡ length (slots_of tree defs)
-length-slots tree defs = many-from tree 0 defs
-
 name_text-some : (name : List Part) → 1 ≤ length name → 0 < length (name_text name)
 name_text-some [] least = absurd (omega (arith, least))
 name_text-some (p ∷ []) least = omega (arith, length-append p.class (61 ∷ p.id))

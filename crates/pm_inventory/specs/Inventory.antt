@@ -1,10 +1,11 @@
 -- The inventory: the managed objects, and the measurements that the objects of a class have (this project's own).
-use Rattle.std.specs.Prelude.{◌≡◌, ◌<◌, ◌==◌, ◌&&◌, ◌++◌, ℕ, List, [], ◌∷◌, length, map, Option, true, codes, Bool}
+use Rattle.std.specs.Prelude.{◌≡◌, ◌<◌, ◌≤◌, ◌==◌, ◌&&◌, ◌++◌, ℕ, List, [], ◌∷◌, length, map, Option, true, codes, Bool}
 use Rattle.std.specs.List.{list_any, flat_map, enumerate_from, position_from}
 use Rattle.pm_base.specs.WholeLines.{text_of_lines}
 use Rattle.pm_dn.specs.Tree.{is_root, objects_of}
 use Rattle.pm_meas.specs.Def.{def_text}
 use Rattle.pm_meas.specs.declared.def.Def.{Def}
+use Rattle.pm_inventory.specs.declared.inventory.TheConstants.{MAX_SLOTS}
 
 -- What an inventory is: the names of its objects in tree order, and its definitions in catalogue order. The number of an
 -- object or a metric is its place.
@@ -44,9 +45,9 @@ slot_number inventory object metric = position_from (is_slot_of object metric) 0
 abbrev pub HasRoot : List (List ℕ) → Type 0
 HasRoot objects = list_any is_root objects ≡ true
 
--- There are 1 to 4,096 slots.
+-- There is a slot, and there are at most `MAX_SLOTS`.
 abbrev pub HasSlots : List (List ℕ) → List Def → Type 0
-HasSlots objects measures = (0 < length (slots_of objects measures)) × (length (slots_of objects measures) < 4097)
+HasSlots objects measures = (0 < length (slots_of objects measures)) × (length (slots_of objects measures) ≤ MAX_SLOTS)
 
 -- The lines of an object, of a measurement, and at the end.
 abbrev pub object_line : List ℕ → List ℕ

@@ -96,13 +96,23 @@ pub record IsCutOff (before after : List ℕ) : Type 0 where
   pub taken : TakesLines before good after
   pub adds : AddsLines empty_inventory good state
 
+-- The first lines of the bytes before break no rule, and the bytes after are left: but for the last they are good, and it is refused
+-- by no code.
+pub record BreaksNone (before after : List ℕ) : Type 0 where
+  pub good : List (List ℕ)
+  pub state : InventoryState
+  pub line : List ℕ
+  pub taken : TakesLines before (good ++ line ∷ []) after
+  pub adds : AddsLines empty_inventory good state
+  pub unbroken : (code : Code) → ¬ RefusesNext (length good) state line code
+
 -- Of the bytes that are left, an inventory takes the lines up to its `end`, or is refused.
 abbrev pub ReadsInventory : List ℕ → List ℕ → Result ReadInventory InventoryError → Type 0
 ReadsInventory before after (Ok r) = IsRead before after r.inventory r.lines
 ReadsInventory before after (Err (error.Refused number code)) = IsInventoryRefusal (lines_of before) number code
 ReadsInventory before after (Err error.Failed) = IsCutOff before after
 ReadsInventory before after (Err error.Limit) = IsCutOff before after
-ReadsInventory before after (Err error.Memory) = Unit {0}
+ReadsInventory before after (Err error.Memory) = BreaksNone before after
 
 -- What an `end` makes of this state, at the line of this number.
 abbrev pub EndsAt : InventoryState → ℕ → Result ReadInventory InventoryError → Type 0
@@ -113,7 +123,7 @@ EndsAt state number (Ok r) =
 EndsAt state number (Err (error.Refused line code)) = (line ≡ number) × (1 < number) × RefusesEnd state code
 EndsAt state number (Err error.Failed) = ⊥
 EndsAt state number (Err error.Limit) = ⊥
-EndsAt state number (Err error.Memory) = Unit {0}
+EndsAt state number (Err error.Memory) = (code : Code) → 1 < number → ¬ RefusesEnd state code
 
 -- What a line that adds nothing makes of the reading, at the line of this number.
 abbrev pub stop_error : ℕ → LineError → InventoryError

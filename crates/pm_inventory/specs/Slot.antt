@@ -1,13 +1,15 @@
 -- Slots: the pairs of a metric and a measured object (this project's own).
 use Rattle.std.specs.Prelude.{◌&&◌, ℕ, List, [], map, Option, slice_index_or}
-use Rattle.std.specs.List.{flat_map, position_from}
+use Rattle.std.specs.List.{position_from}
 use Rattle.std.specs.Str.{bytes_eq}
+use Rattle.pm_base.specs.declared.class.Class.TheVariants.{ManagedElement}
 use Rattle.pm_dn.specs.Tree.{objects_of}
 use Rattle.pm_meas.specs.declared.def.Def.{Def}
 use Rattle.pm_meas.specs.declared.kind.Kind.{Kind}
 use Rattle.pm_meas.specs.declared.kind.Kind.TheVariants.{Cc, Gauge, Der, Si}
 use Rattle.pm_meas.specs.declared.kind.Reduce.{Reduce}
-use Rattle.pm_inventory.specs.Inventory.{InventoryState}
+use Rattle.pm_meas.specs.declared.kind.Reduce.TheVariants.{Sum}
+use Rattle.pm_inventory.specs.Inventory.{InventoryState, SlotKey, slots}
 
 -- A slot, with the texts by which lines of events name it.
 pub record Slot : Type 0 where
@@ -35,6 +37,14 @@ slot_of objects def object = record { object = slice_index_or objects object [];
 abbrev pub slots_of_def : List (List ℕ) → Def → List Slot
 slots_of_def objects def = map (slot_of objects def) (objects_of objects def.class)
 
--- The slots of an inventory, by metric in catalogue order, each at the place that is its number.
+-- The definition of the metric of this number; of a number that no metric has, one without a name.
+abbrev pub def_at : List Def → ℕ → Def
+def_at measures metric = slice_index_or measures metric (record { name = []; class = ManagedElement; kind = Si; reduce = Sum })
+
+-- The slot of a key, as lines of events name it.
+abbrev pub slot_of_key : InventoryState → SlotKey → Slot
+slot_of_key inventory key = slot_of inventory.objects (def_at inventory.measures key.metric) key.object
+
+-- The slots of an inventory, each at the place that is its number.
 abbrev pub event_slots : InventoryState → List Slot
-event_slots inventory = flat_map (slots_of_def inventory.objects) inventory.measures
+event_slots inventory = map (slot_of_key inventory) (slots inventory)

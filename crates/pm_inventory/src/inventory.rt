@@ -12,22 +12,26 @@ ghost use Rattle.pm_inventory.specs.InventoryFields.{AreFirst, ArePlaces};
 use crate::default::{default_catalogue, default_tree};
 use crate::inventory_text::{write_measures, write_objects};
 use pm_base::{Blob, Class};
-use pm_dn::Tree;
+use pm_dn::{MAX_OBJECTS, Tree};
 use pm_meas::Catalogue;
 use std::alloc::{AllocError, Global};
 use std::marker::Model;
+use thiserror::Error;
 
 /// The most slots of an inventory.
-pub const SLOTS: u16 = 4_096;
+pub const MAX_SLOTS: u16 = 4_096;
 
 /// Why a tree and a catalogue are no inventory.
-#[derive(Clone, Copy, Debug, PartialEq, Eq)]
+#[derive(Clone, Copy, Debug, PartialEq, Eq, Error)]
 pub enum InvError {
-    /// No ManagedElement stands.
+    /// There is no ManagedElement.
+    #[error("the inventory has no ManagedElement")]
     N10,
-    /// There is no slot, or there are over 4,096.
+    /// There is no slot, or there are over `MAX_SLOTS`.
+    #[error("the inventory has no slot, or over {MAX_SLOTS}")]
     M5,
-    /// Memory is wanting.
+    /// Out of memory.
+    #[error("out of memory")]
     Memory,
 }
 
@@ -68,7 +72,7 @@ impl Inventory {
             return Err(InvError::N10);
         }
         let slots = count_slots(&tree, &catalogue);
-        if slots == 0 || slots > SLOTS {
+        if slots == 0 || slots > MAX_SLOTS {
             return Err(InvError::M5);
         }
         let Ok(first) = first_slots(alloc, &tree, &catalogue) else {
@@ -186,7 +190,7 @@ fn objects_before(tree: &Tree, end: u16, class: Class) -> u16
 fn objects_of_metric(tree: &Tree, catalogue: &Catalogue, metric: u8) -> u16
     requires { metric < length catalogue.now }
     ensures more { length (slots_of tree.now (take (metric + 1) catalogue.now)) ≡ length (slots_of tree.now (take metric catalogue.now)) + result }
-    ensures most { result ≤ 256 }
+    ensures most { result ≤ MAX_OBJECTS }
 {
     objects_before(tree, tree.len(), catalogue.def(metric).class)
 }

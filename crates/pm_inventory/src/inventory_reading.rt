@@ -18,11 +18,13 @@ use pm_dn::Tree;
 use pm_meas::Catalogue;
 use pm_outside::{Feed, FeedError, Line, Source};
 use std::alloc::Global;
+use thiserror::Error;
 
 /// Why an inventory was not read.
-#[derive(Clone, Copy, Debug, PartialEq, Eq)]
+#[derive(Clone, Copy, Debug, PartialEq, Eq, Error)]
 pub enum InventoryError {
     /// A line is refused, or the input ends before the inventory does.
+    #[error("line {line} of the inventory is refused: {}", .code.name())]
     Refused {
         /// The number of the line, from 1; of a missing line (I2) the one that it would have.
         line: u64,
@@ -30,10 +32,13 @@ pub enum InventoryError {
         code: Code,
     },
     /// The source failed.
+    #[error("the inventory could not be read")]
     Failed,
-    /// As many bytes as may be read stand before the end of the next line.
+    /// As many bytes as may be read come before the end of the next line.
+    #[error("the input is longer than may be read")]
     Limit,
-    /// Memory is wanting.
+    /// Out of memory; no line that was read breaks a rule.
+    #[error("out of memory")]
     Memory,
 }
 

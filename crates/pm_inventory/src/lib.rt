@@ -8,7 +8,7 @@ mod inventory_line;
 mod inventory_reading;
 mod inventory_text;
 
-pub use inventory::{InvError, Inventory, SLOTS, has_class};
+pub use inventory::{InvError, Inventory, MAX_SLOTS, has_class};
 pub use inventory_law::{never_refused, one_inventory, one_refusal};
 pub use inventory_line::{LineError, take_line};
 pub use inventory_reading::{InventoryError, ReadInventory, read_inventory};
