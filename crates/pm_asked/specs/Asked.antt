@@ -3,7 +3,8 @@ use Rattle.std.specs.Prelude.{ℕ, ◌+◌, ◌-◌, ◌*◌, ◌/◌, ◌||◌,
 use Rattle.std.specs.List.{list_any, flat_map, enumerate_from, sum_by}
 use Rattle.std.specs.Str.{bytes_eq}
 use Rattle.pm_base.specs.declared.class.Class.{Class}
-use Rattle.pm_base.specs.declared.class.Class.TheVariants.{ManagedElement, GnbCuCp, NrCellCu, GnbDu, NrCellDu}
+use Rattle.pm_base.specs.declared.class.TheConstants.{CLASSES}
+use Rattle.pm_base.specs.Class.{class_name}
 use Rattle.pm_dn.specs.Containment.{has_path_to}
 use Rattle.pm_dn.specs.Tree.{is_under, numbers_where}
 use Rattle.pm_meas.specs.Catalogue.{family_of}
@@ -47,17 +48,8 @@ is_of_class inventory class object = has_path_to class (slice_index_or inventory
 abbrev pub measured_objects : InventoryState → List ℕ → Class → List ℕ
 measured_objects inventory objects class = filter (is_of_class inventory class) objects
 
--- The classes, in byte order of their names.
-abbrev pub classes : List Class
-classes = GnbCuCp ∷ GnbDu ∷ ManagedElement ∷ NrCellCu ∷ NrCellDu ∷ []
-
 abbrev pub same_class : Class → Class → Bool
-same_class ManagedElement ManagedElement = true
-same_class GnbCuCp GnbCuCp = true
-same_class NrCellCu NrCellCu = true
-same_class GnbDu GnbDu = true
-same_class NrCellDu NrCellDu = true
-same_class _ _ = false
+same_class a b = bytes_eq (class_name a) (class_name b)
 
 abbrev pub metric_of : Numbered → Metric
 metric_of metric = record { number = metric.0; reduce = metric.1.reduce }
@@ -73,7 +65,7 @@ abbrev pub measured_asked : InventoryState → List Numbered → List ℕ → Li
 measured_asked inventory metrics objects =
     flat_map
     (λ class. measured_of inventory objects class (filter (λ (metric : Numbered). same_class metric.1.class class) metrics))
-    classes
+    CLASSES
 
 -- The hysteresis that counts: on a cumulative counter it is 0.
 abbrev pub margin : Kind → ℕ → ℕ

@@ -88,25 +88,42 @@ monitor_text body = compact_text (monitor_tree body)
 
 -- ---- bodies within their ranges
 
+-- The most objects and the most roots, metrics and thresholds that a body names.
+abbrev pub MOST_NAMED : ℕ
+MOST_NAMED = 256
+
+abbrev pub MOST_METRICS : ℕ
+MOST_METRICS = 64
+
+abbrev pub MOST_THRESHOLDS : ℕ
+MOST_THRESHOLDS = 16
+
+-- The greatest period, and the greatest value of a threshold: 2 ^ 32 - 1, and 2 ^ 53 - 1.
+abbrev pub MOST_PERIOD : ℕ
+MOST_PERIOD = 4294967295
+
+abbrev pub MOST_THRESHOLD : ℕ
+MOST_THRESHOLD = 9007199254740991
+
 abbrev pub AreMetrics : List (List ℕ) → Type 0
-AreMetrics metrics = (1 ≤ length metrics) × (length metrics ≤ 64)
+AreMetrics metrics = (1 ≤ length metrics) × (length metrics ≤ MOST_METRICS)
 
 pub record IsJobBody (body : JobBody) : Type 0 where
-  pub granularity : body.granularity ≤ 4294967295
-  pub objects : length body.objects ≤ 256
+  pub granularity : body.granularity ≤ MOST_PERIOD
+  pub objects : length body.objects ≤ MOST_NAMED
   pub metrics : AreMetrics body.metrics
-  pub reporting : body.reporting ≤ 4294967295
-  pub roots : length body.roots ≤ 256
+  pub reporting : body.reporting ≤ MOST_PERIOD
+  pub roots : length body.roots ≤ MOST_NAMED
 
 pub record IsThreshold (threshold : Threshold) : Type 0 where
   pub metrics : AreMetrics threshold.metrics
-  pub value : threshold.value ≤ 9007199254740991
+  pub value : threshold.value ≤ MOST_THRESHOLD
   pub hysteresis : threshold.hysteresis ≤ threshold.value
 
 pub record IsMonitorBody (body : MonitorBody) : Type 0 where
-  pub granularity : body.granularity ≤ 4294967295
-  pub objects : length body.objects ≤ 256
-  pub roots : length body.roots ≤ 256
+  pub granularity : body.granularity ≤ MOST_PERIOD
+  pub objects : length body.objects ≤ MOST_NAMED
+  pub roots : length body.roots ≤ MOST_NAMED
   pub least : 1 ≤ length body.thresholds
-  pub most : length body.thresholds ≤ 16
+  pub most : length body.thresholds ≤ MOST_THRESHOLDS
   pub each : AllByRecursion IsThreshold body.thresholds

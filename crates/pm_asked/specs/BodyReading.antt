@@ -5,7 +5,7 @@ use Rattle.std.specs.Str.{bytes_eq, is_utf8}
 use Rattle.serde_json.specs.Data.{Data, Items, no_items, item, Members, no_members, member}
 use Rattle.serde_json.specs.Find.{get_member, as_object, as_array, as_str, as_number, as_u64}
 use Rattle.serde_json.specs.Read.{read}
-use Rattle.pm_asked.specs.Body.{Directions, Up, Down, UpAndDown, Threshold, JobBody, MonitorBody, job_tree, monitor_tree, IsJobBody, IsMonitorBody}
+use Rattle.pm_asked.specs.Body.{MOST_NAMED, MOST_METRICS, MOST_THRESHOLDS, MOST_PERIOD, MOST_THRESHOLD, Directions, Up, Down, UpAndDown, Threshold, JobBody, MonitorBody, job_tree, monitor_tree, IsJobBody, IsMonitorBody}
 
 -- A tree is that of a body where it has no other keys, and each value is of its type and within its range.
 
@@ -52,10 +52,10 @@ abbrev pub state_in : Members → Option Bool
 state_in ms = value_or true state_of (get_member (codes "administrativeState") ms)
 
 abbrev pub names_in : List ℕ → Members → Option (List (List ℕ))
-names_in key ms = value_or [] (list_of 0 256) (get_member key ms)
+names_in key ms = value_or [] (list_of 0 MOST_NAMED) (get_member key ms)
 
 abbrev pub metrics_in : Members → Option (List (List ℕ))
-metrics_in ms = option_and_then (list_of 1 64) (get_member (codes "performanceMetrics") ms)
+metrics_in ms = option_and_then (list_of 1 MOST_METRICS) (get_member (codes "performanceMetrics") ms)
 
 abbrev pub number_in : ℕ → List ℕ → Members → Option ℕ
 number_in most key ms = option_and_then (number_of most) (get_member key ms)
@@ -87,10 +87,10 @@ job_members ms =
       roots = roots;
     })
     (names_in (codes "rootObjectInstances") ms))
-    (number_in 4294967295 (codes "reportingPeriod") ms))
+    (number_in MOST_PERIOD (codes "reportingPeriod") ms))
     (metrics_in ms))
     (names_in (codes "objectInstances") ms))
-    (number_in 4294967295 (codes "granularityPeriod") ms))
+    (number_in MOST_PERIOD (codes "granularityPeriod") ms))
     (state_in ms)
 
 -- What a tree says as a job's body, if it is one.
@@ -114,7 +114,7 @@ threshold_members ms =
       hysteresis = hysteresis;
     })
     (value_or 0 (number_of value) (get_member (codes "hysteresis") ms)))
-    (number_in 9007199254740991 (codes "thresholdValue") ms))
+    (number_in MOST_THRESHOLD (codes "thresholdValue") ms))
     (option_and_then directions_of (get_member (codes "thresholdDirection") ms)))
     (metrics_in ms)
 
@@ -125,11 +125,11 @@ abbrev pub thresholds_of : Items → Option (List Threshold)
 thresholds_of no_items = Some []
 thresholds_of (item d ds) = option_and_then (λ t. option_map (λ ts. t ∷ ts) (thresholds_of ds)) (threshold_of d)
 
--- A list of 1 to 16 thresholds.
+-- A list of 1 to `MOST_THRESHOLDS` thresholds.
 abbrev pub threshold_list_of : Data → Option (List Threshold)
 threshold_list_of d =
     option_and_then
-    (λ ts. if nat_le 1 (length ts) && nat_le (length ts) 16 then Some ts else None)
+    (λ ts. if nat_le 1 (length ts) && nat_le (length ts) MOST_THRESHOLDS then Some ts else None)
     (option_and_then thresholds_of (as_array d))
 
 abbrev pub monitor_keys : List (List ℕ)
@@ -158,7 +158,7 @@ monitor_members ms =
     (option_and_then threshold_list_of (get_member (codes "thresholdInfoList") ms)))
     (names_in (codes "rootObjectInstances") ms))
     (names_in (codes "objectInstances") ms))
-    (number_in 4294967295 (codes "monitorGranularityPeriod") ms))
+    (number_in MOST_PERIOD (codes "monitorGranularityPeriod") ms))
     (state_in ms)
 
 -- What a tree says as a monitor's body, if it is one.
