@@ -11,28 +11,28 @@ use Rattle.std.specs.List.{All}
 use Rattle.pm_base.specs.Moment.{tick_of}
 use Rattle.pm_base.specs.declared.code.Code.TheVariants.{E4, E5}
 use Rattle.pm_meas.specs.Cell.{cell_of}
-use Rattle.pm_model.specs.Slot.{Slot}
-use Rattle.pm_model.specs.Event.{order_refusal, last_moment, events_in, events_at, every_at, is_registered, registered, registered_in, values_in}
-use Rattle.pm_model.specs.declared.event.Event.{Event}
-use Rattle.pm_model.proofs.EventLemmas.{eqb_other, last_moment-more, events_in-none, events_at-same, events_at-other, registered-none, registered-same, registered_in-last, values_in-last, values_in-same, values_in-other, values_in-few, ordered-more}
+use Rattle.pm_inventory.specs.Slot.{Slot}
+use Rattle.pm_events.specs.Event.{order_refusal, last_moment, events_in, events_at, registers_each_at, is_registered, registered, registered_in, values_in}
+use Rattle.pm_events.specs.declared.event.Event.{Event}
+use Rattle.pm_events.proofs.EventLemmas.{eqb_other, last_moment-more, events_in-none, events_at-same, events_at-other, registered-none, registered-same, registered_in-last, values_in-last, values_in-same, values_in-other, values_in-few, ordered-more}
 use Rattle.pm_tally.specs.Counting.{Counts, CountsEvent, IsStep, IsClear, AreClear, KeepsSlot, KeepsTick}
 use Rattle.pm_tally.specs.declared.slot_count.SlotCount.{SlotCount}
 use Rattle.pm_tally.specs.declared.counting.Counting.{Counting}
 
 -- the number of events behind the last registered one, with one more
-next_seen : (events : List Event) (e : Event) (every seen : ℕ) → seen ≡ length (events_at events e.slot (tick_of e.moment)) % every → (seen + 1) % every ≡ (length (events_at events e.slot (tick_of e.moment)) + 1) % every
-next_seen events e every seen is =
+next_seen : (events : List Event) (e : Event) (registers_each seen : ℕ) → seen ≡ length (events_at events e.slot (tick_of e.moment)) % registers_each → (seen + 1) % registers_each ≡ (length (events_at events e.slot (tick_of e.moment)) + 1) % registers_each
+next_seen events e registers_each seen is =
     let many = length (events_at events e.slot (tick_of e.moment)) in
     let one : (n : ℕ) → n + 1 ≡ suc n = λ n. omega arith in
-    ap (λ (n : ℕ). (n + 1) % every) is ∙ ap (λ (n : ℕ). n % every) (one (many % every)) ∙ sym (suc-mod many every) ∙ ap (λ (n : ℕ). n % every) (sym (one many))
+    ap (λ (n : ℕ). (n + 1) % registers_each) is ∙ ap (λ (n : ℕ). n % registers_each) (one (many % registers_each)) ∙ sym (suc-mod many registers_each) ∙ ap (λ (n : ℕ). n % registers_each) (sym (one many))
 
 -- it is registered where the code says so
 registered_as : (slots : List Slot) (events : List Event) (e : Event) (old new : SlotCount) (is : Bool) → KeepsSlot slots events (tick_of e.moment) e.slot old → IsStep old e.value new is → is ≡ is_registered slots events e
 registered_as slots events e old new is keeps step =
-    let every = every_at slots e.slot in
+    let registers_each = registers_each_at slots e.slot in
     step.registered
-    ∙ ap (λ (n : ℕ). eqb ((old.seen + 1) % n) 0) keeps.every
-    ∙ ap (λ (n : ℕ). eqb n 0) (next_seen events e every old.seen keeps.seen)
+    ∙ ap (λ (n : ℕ). eqb ((old.seen + 1) % n) 0) keeps.registers_each
+    ∙ ap (λ (n : ℕ). eqb n 0) (next_seen events e registers_each old.seen keeps.seen)
 
 -- the fold of the values of its slot
 cell-next : (slots : List Slot) (events : List Event) (e : Event) (old new : SlotCount) (is : Bool) → KeepsSlot slots events (tick_of e.moment) e.slot old → registered_in slots events (tick_of e.moment) < 1073741824 → is ≡ is_registered slots events e → MatchBool is ((values : List ℕ) → old.cell ≡ cell_of values → length values < 1073741824 → new.cell ≡ cell_of (values ++ e.value ∷ [])) (new.cell ≡ old.cell) → new.cell ≡ cell_of (values_in slots (events ++ e ∷ []) e.slot (tick_of e.moment))
@@ -45,20 +45,20 @@ cell-next slots events e old new false keeps room is step = step ∙ keeps.cell 
 -- its own slot
 keeps-own : (slots : List Slot) (events : List Event) (e : Event) (old new : SlotCount) (is : Bool) → KeepsSlot slots events (tick_of e.moment) e.slot old → registered_in slots events (tick_of e.moment) < 1073741824 → IsStep old e.value new is → KeepsSlot slots (events ++ e ∷ []) (tick_of e.moment) e.slot new
 keeps-own slots events e old new is keeps room step =
-    let every = every_at slots e.slot in
+    let registers_each = registers_each_at slots e.slot in
     let more : length (events_at (events ++ e ∷ []) e.slot (tick_of e.moment)) ≡ length (events_at events e.slot (tick_of e.moment)) + 1 =
     ap length (events_at-same events e e.slot (tick_of e.moment) refl refl) ∙ length-append (events_at events e.slot (tick_of e.moment)) (e ∷ []) in
     record {
-      every = step.every ∙ keeps.every;
-      seen = step.seen ∙ ap (λ (n : ℕ). (old.seen + 1) % n) keeps.every ∙ next_seen events e every old.seen keeps.seen ∙ ap (λ (n : ℕ). n % every) (sym more);
+      registers_each = step.registers_each ∙ keeps.registers_each;
+      seen = step.seen ∙ ap (λ (n : ℕ). (old.seen + 1) % n) keeps.registers_each ∙ next_seen events e registers_each old.seen keeps.seen ∙ ap (λ (n : ℕ). n % registers_each) (sym more);
       cell = cell-next slots events e old new is keeps room (registered_as slots events e old new is keeps step) step.cell;
     }
 
 -- another slot
 keeps-other : (slots : List Slot) (events : List Event) (e : Event) (place : ℕ) (count : SlotCount) → e.slot ≢ place → KeepsSlot slots events (tick_of e.moment) place count → KeepsSlot slots (events ++ e ∷ []) (tick_of e.moment) place count
 keeps-other slots events e place count differs keeps = record {
-  every = keeps.every;
-  seen = keeps.seen ∙ ap (λ (l : List Event). length l % every_at slots place) (sym (events_at-other events e place (tick_of e.moment) refl differs));
+  registers_each = keeps.registers_each;
+  seen = keeps.seen ∙ ap (λ (l : List Event). length l % registers_each_at slots place) (sym (events_at-other events e place (tick_of e.moment) refl differs));
   cell = keeps.cell ∙ ap cell_of (sym (values_in-other slots events e place differs));
 }
 
@@ -108,8 +108,8 @@ keeps-none slots events tick other many counts clear none keeps begun = record {
   registered_is = sym (ap length (registered-none slots events tick none));
   slot = λ place d inside.
       let empty = begun.slot place d (omega (arith, inside, keeps.many)) in record {
-        every = empty.every_is ∙ (keeps.slot place d inside).every;
-        seen = empty.seen ∙ sym (zero-mod (every_at slots place)) ∙ ap (λ (l : List Event). length (filter (λ x. eqb x.slot place) l) % every_at slots place) (sym none);
+        registers_each = empty.registers_each_is ∙ (keeps.slot place d inside).registers_each;
+        seen = empty.seen ∙ sym (zero-mod (registers_each_at slots place)) ∙ ap (λ (l : List Event). length (filter (λ x. eqb x.slot place) l) % registers_each_at slots place) (sym none);
         cell = empty.cell ∙ ap (λ (l : List Event). cell_of (map (λ x. x.value) (filter (λ x. eqb x.slot place) l))) (sym (registered-none slots events tick none));
       };
 }
@@ -128,7 +128,7 @@ counts-later slots events e d old middle new counts later zero_ clear within cou
     }
 
 -- Of no event.
-pub counts-none : (slots : List Slot) (counting : Counting) → counting.moment ≡ 0 → counting.registered ≡ 0 → length counting.counts.items ≡ length slots → ((place : ℕ) (d : SlotCount) → place < length slots → IsClear (every_at slots place) (get_or counting.counts.items place d)) → Counts slots counting []
+pub counts-none : (slots : List Slot) (counting : Counting) → counting.moment ≡ 0 → counting.registered ≡ 0 → length counting.counts.items ≡ length slots → ((place : ℕ) (d : SlotCount) → place < length slots → IsClear (registers_each_at slots place) (get_or counting.counts.items place d)) → Counts slots counting []
 counts-none slots counting moment none many slot = record {
   moment = moment;
   ordered = λ k d lt. absurd (omega (arith, lt));
@@ -137,8 +137,8 @@ counts-none slots counting moment none many slot = record {
     registered_is = none;
     slot = λ place d inside.
         let empty = slot place d inside in record {
-          every = empty.every_is;
-          seen = empty.seen ∙ sym (zero-mod (every_at slots place));
+          registers_each = empty.registers_each_is;
+          seen = empty.seen ∙ sym (zero-mod (registers_each_at slots place));
           cell = empty.cell;
         };
   };
@@ -155,11 +155,11 @@ not_refused slots counting events e counts later room =
     ∙ ap (λ (b : Bool). cond b (Some E4) None) (lt-leb 1073741824 (registered_in slots events (tick_of e.moment)) few)
 
 -- An event that is not registered.
-pub small_seen : (seen every : ℕ) → seen + 1 < every → seen + 1 ≡ (seen + 1) % every
-small_seen seen every less = sym (mod-eq_of_lt less)
+pub small_seen : (seen registers_each : ℕ) → seen + 1 < registers_each → seen + 1 ≡ (seen + 1) % registers_each
+small_seen seen registers_each less = sym (mod-eq_of_lt less)
 
-pub not_yet : (seen every : ℕ) → seen + 1 < every → false ≡ eqb ((seen + 1) % every) 0
-not_yet seen every less = sym (ap (λ (n : ℕ). eqb n 0) (mod-eq_of_lt less) ∙ eqb_other (seen + 1) 0 (λ is. omega (arith, is)))
+pub not_yet : (seen registers_each : ℕ) → seen + 1 < registers_each → false ≡ eqb ((seen + 1) % registers_each) 0
+not_yet seen registers_each less = sym (ap (λ (n : ℕ). eqb n 0) (mod-eq_of_lt less) ∙ eqb_other (seen + 1) 0 (λ is. omega (arith, is)))
 
 -- What a slice that was lent puts back.
 pub put_back : {A : Type 0} (old new : List A) (len : ℕ) → length new ≡ length old → len ≡ length old → take len (new ++ drop (length new) old) ≡ new
@@ -187,13 +187,13 @@ get_or-append_front (a ∷ xs) ys zero d within = refl
 get_or-append_front (a ∷ xs) ys (suc i) d within = get_or-append_front xs ys i d (omega (arith, within))
 
 -- One more count of no event.
-pub clear-next : (slots : List Slot) (counts : List SlotCount) (count : SlotCount) (every : ℕ) (d : Slot) → length counts < length slots → every ≡ (get_or slots (length counts) d).every → IsClear every count → ((place : ℕ) (c : SlotCount) → place < length counts → IsClear (every_at slots place) (get_or counts place c)) → (place : ℕ) (c : SlotCount) → place < length counts + 1 → IsClear (every_at slots place) (get_or (counts ++ count ∷ []) place c)
-clear-next slots counts count every d within is clear before place c inside = elim (eqb_tells place (length counts)) [
+pub clear-next : (slots : List Slot) (counts : List SlotCount) (count : SlotCount) (registers_each : ℕ) (d : Slot) → length counts < length slots → registers_each ≡ (get_or slots (length counts) d).registers_each → IsClear registers_each count → ((place : ℕ) (c : SlotCount) → place < length counts → IsClear (registers_each_at slots place) (get_or counts place c)) → (place : ℕ) (c : SlotCount) → place < length counts + 1 → IsClear (registers_each_at slots place) (get_or (counts ++ count ∷ []) place c)
+clear-next slots counts count registers_each d within is clear before place c inside = elim (eqb_tells place (length counts)) [
   | inl same ↦
-      let at : every_at slots (length counts) ≡ every = get_or-map (λ (s : Slot). s.every) slots (length counts) d 1 within ∙ sym is in
-      let last : IsClear (every_at slots (length counts)) count = subst (λ (n : ℕ). IsClear n count) (sym at) clear in
-      subst (λ (p : ℕ). IsClear (every_at slots p) (get_or (counts ++ count ∷ []) p c)) (sym same.1) (subst (IsClear (every_at slots (length counts))) (sym (get_or-append_at counts count [] c)) last)
+      let at : registers_each_at slots (length counts) ≡ registers_each = get_or-map (λ (s : Slot). s.registers_each) slots (length counts) d 1 within ∙ sym is in
+      let last : IsClear (registers_each_at slots (length counts)) count = subst (λ (n : ℕ). IsClear n count) (sym at) clear in
+      subst (λ (p : ℕ). IsClear (registers_each_at slots p) (get_or (counts ++ count ∷ []) p c)) (sym same.1) (subst (IsClear (registers_each_at slots (length counts))) (sym (get_or-append_at counts count [] c)) last)
   | inr other ↦
       let less : place < length counts = omega (arith, inside, other.1) in
-      subst (IsClear (every_at slots place)) (sym (get_or-append_front counts (count ∷ []) place c less)) (before place c less)
+      subst (IsClear (registers_each_at slots place)) (sym (get_or-append_front counts (count ∷ []) place c less)) (before place c less)
 ]

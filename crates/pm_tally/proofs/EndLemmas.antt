@@ -7,19 +7,19 @@ use Rattle.pm_base.specs.Pieces.{words_of}
 use Rattle.pm_base.specs.declared.code.Code.{Code}
 use Rattle.pm_base.specs.declared.code.Code.TheVariants.{E1}
 use Rattle.pm_outside.proofs.LinesLemmas.{lines_of-long, lines_of-last, lines_of-first}
-use Rattle.pm_model.specs.Slot.{Slot}
-use Rattle.pm_model.specs.Inventory.{text_of_lines}
-use Rattle.pm_model.specs.EventLine.{LineEvent, event_line, event_of_words}
+use Rattle.pm_inventory.specs.Slot.{Slot}
+use Rattle.pm_base.specs.WholeLines.{text_of_lines}
+use Rattle.pm_events.specs.EventLine.{LineEvent, event_line, event_of_words}
 use Rattle.pm_base.specs.Moment.{tick_of}
 use Rattle.pm_tally.proofs.TallyLemmas.{all_lines-ended}
-use Rattle.pm_model.specs.Event.{last_moment, events_of, event_of, refusal, refusal_of}
-use Rattle.pm_model.specs.declared.event.Event.{Event}
-use Rattle.pm_model.proofs.EventLemmas.{events_of-more}
+use Rattle.pm_events.specs.Event.{last_moment, events_of, event_of, refusal, refusal_of}
+use Rattle.pm_events.specs.declared.event.Event.{Event}
+use Rattle.pm_events.proofs.EventLemmas.{events_of-more}
 use Rattle.pm_tally.specs.Tally.{good_lines, ended_lines, all_lines, tick_lines, tally_text}
 use Rattle.pm_tally.specs.Taking.{TakesLine, WritesLine, WritesSome, stop_end}
 use Rattle.pm_tally.specs.Finishing.{IsEnd, HasText, Finishes, TakesLast, WritesLast}
-use Rattle.pm_model.specs.WholeLines.{TakesLines}
-use Rattle.pm_model.proofs.WholeLinesLemmas.{takes-none, takes-next}
+use Rattle.pm_base.specs.WholeLines.{TakesLines}
+use Rattle.pm_inventory.proofs.WholeLinesLemmas.{takes-none, takes-next}
 use Rattle.pm_outside.specs.Feed.{MOST_READ, MOST_AHEAD, IsFirstLine}
 use Rattle.pm_outside.specs.NextLine.{IsOneLine, IsLastLine, IsAtLimit}
 use Rattle.pm_tally.specs.Outcome.{ran, IsRefused, IsStopped, IsInterrupted, IsTallied}
@@ -55,8 +55,7 @@ end-refused slots first given all left counting place IsTold old new line rest n
     let good = progress.good in
     let split : lines_of all ≡ good ++ line ∷ behind = progress-lines slots first all left counting place IsTold old new progress ∙ ap (λ (l : List (List ℕ)). good ++ l) is in
     let good_is : good_lines slots (lines_of all) ≡ good = ap (good_lines slots) split ∙ begins-refused slots good line behind code progress.begins refused in
-    let fewer : length good < length (lines_of all) = omega (arith, ap length split, length-append good (line ∷ behind)) in
-    (
+    let fewer : length good < length (lines_of all) = omega (arith, ap length split, length-append good (line ∷ behind)) in (
       refused_line slots first place (lines_of all) good behind line code split good_is refused progress.numbered,
       λ told. kept told ∙ progress.written told ∙ ap (λ (l : List ℕ). old ++ l) (sym (text-refused slots (lines_of all) good good_is fewer)),
     )

@@ -8,5 +8,3 @@ pub mod Progress
 pub mod EndLemmas
 pub mod OutcomeLemmas
 pub mod PlainLemmas
-pub mod LastWordLemmas
-pub mod ReaderLemmas

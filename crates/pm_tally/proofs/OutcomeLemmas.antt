@@ -4,12 +4,13 @@ use Rattle.std.proofs.lemmas.List.{append-nil, append_cancel_right}
 use Rattle.std.specs.List.{All}
 use Rattle.pm_base.specs.Lines.{MOST_LINE, HasNoLineFeed, HasNoLine, lines_of}
 use Rattle.pm_outside.specs.Feed.{MOST_READ}
-use Rattle.pm_model.specs.Slot.{event_slots}
-use Rattle.pm_model.specs.Inventory.{InventoryState, text_of_lines}
-use Rattle.pm_model.specs.ReadingLines.{AddsLines, empty_inventory, IsRead, ReadsInventory}
-use Rattle.pm_model.specs.ReadingLines as reading
-use Rattle.pm_model.specs.declared.reading.InventoryError.{InventoryError}
-use Rattle.pm_model.specs.declared.reading.InventoryError.TheVariants as error
+use Rattle.pm_inventory.specs.Slot.{event_slots}
+use Rattle.pm_base.specs.WholeLines.{text_of_lines}
+use Rattle.pm_inventory.specs.Inventory.{InventoryState}
+use Rattle.pm_inventory.specs.InventoryReading.{AddsLines, empty_inventory, IsRead, ReadsInventory}
+use Rattle.pm_inventory.specs.InventoryReading as reading
+use Rattle.pm_inventory.specs.declared.inventory_reading.InventoryError.{InventoryError}
+use Rattle.pm_inventory.specs.declared.inventory_reading.InventoryError.TheVariants as error
 use Rattle.pm_tally.specs.Outcome.{ran, BreaksOff, IsTallied, IsTalliedAfter, IsInInventory, IsOutcome, end_of_inventory}
 use Rattle.pm_tally.specs.declared.tally_end.TallyEnd.{TallyEnd}
 use Rattle.pm_tally.specs.declared.tally_end.TallyEnd.TheVariants.{Done, Refused, TooLong, ReadFault, WriteFault, BadInventory, Memory}

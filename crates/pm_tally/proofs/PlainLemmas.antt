@@ -11,14 +11,14 @@ use Rattle.std.specs.List.{flat_map, range_with_len}
 use Rattle.pm_base.specs.Lines.{lines_of, lines_of_parts}
 use Rattle.pm_base.specs.Moment.{tick_of}
 use Rattle.pm_base.specs.declared.code.Code.TheVariants.{E4, E5}
-use Rattle.pm_model.specs.Slot.{Slot, event_slots}
-use Rattle.pm_model.specs.Inventory.{InventoryState}
-use Rattle.pm_model.specs.ReadingLines.{IsRead}
+use Rattle.pm_inventory.specs.Slot.{Slot, event_slots}
+use Rattle.pm_inventory.specs.Inventory.{InventoryState}
+use Rattle.pm_inventory.specs.InventoryReading.{IsRead}
 use Rattle.pm_tally.specs.declared.plain.PlainTally.{PlainTally}
 use Rattle.pm_tally.proofs.OutcomeLemmas.{outcome-read}
-use Rattle.pm_model.specs.Event.{events_of, events_in, events_at, every_at, registered, registered_in, registered_one, is_registered, last_moment, read_event, refusal, refusal_of, order_refusal}
-use Rattle.pm_model.specs.declared.event.Event.{Event}
-use Rattle.pm_model.proofs.EventLemmas.{eqb_other, events_in-other, events_of-more, registered-more, registered-other, registered-same, registered_in-last}
+use Rattle.pm_events.specs.Event.{events_of, events_in, events_at, registers_each_at, registered, registered_in, registered_one, is_registered, last_moment, read_event, refusal, refusal_of, order_refusal}
+use Rattle.pm_events.specs.declared.event.Event.{Event}
+use Rattle.pm_events.proofs.EventLemmas.{eqb_other, events_in-other, events_of-more, registered-more, registered-other, registered-same, registered_in-last}
 use Rattle.pm_tally.specs.Tally.{good_lines, tick_lines, lines_before}
 use Rattle.pm_tally.specs.Outcome.{ran, IsRefused, IsTallied, IsOutcome}
 use Rattle.pm_outside.specs.Feed.{MOST_READ}
@@ -205,19 +205,19 @@ by_rule slots first lines text (end.BadInventory line code) ends = absurd ends
 by_rule slots first lines text end.Memory ends = absurd ends
 
 -- An event is registered where the events before it leave one to the number of which one is.
-pub counts-as : (slots : List Slot) (events : List Event) (e : Event) (every : ℕ) → 1 ≤ every → every ≡ every_at slots e.slot → eqb (length (events_at events e.slot (tick_of e.moment)) % every + 1) every ≡ is_registered slots events e
-counts-as slots events e every some is =
+pub counts-as : (slots : List Slot) (events : List Event) (e : Event) (registers_each : ℕ) → 1 ≤ registers_each → registers_each ≡ registers_each_at slots e.slot → eqb (length (events_at events e.slot (tick_of e.moment)) % registers_each + 1) registers_each ≡ is_registered slots events e
+counts-as slots events e registers_each some is =
     let many = length (events_at events e.slot (tick_of e.moment)) in
     let one : (n : ℕ) → n + 1 ≡ suc n = λ n. omega arith in
-    let next : (many + 1) % every ≡ (many % every + 1) % every =
-    ap (λ (n : ℕ). n % every) (one many) ∙ suc-mod many every ∙ ap (λ (n : ℕ). n % every) (sym (one (many % every))) in
-    let same : eqb ((many + 1) % every) 0 ≡ is_registered slots events e = ap (λ (m : ℕ). eqb ((many + 1) % m) 0) is in
-    elim (eqb_tells (many % every + 1) every) [
-      | inl full ↦ full.0 ∙ sym (ap (λ (n : ℕ). eqb n 0) (next ∙ ap (λ (n : ℕ). n % every) full.1 ∙ mod_self every)) ∙ same
+    let next : (many + 1) % registers_each ≡ (many % registers_each + 1) % registers_each =
+    ap (λ (n : ℕ). n % registers_each) (one many) ∙ suc-mod many registers_each ∙ ap (λ (n : ℕ). n % registers_each) (sym (one (many % registers_each))) in
+    let same : eqb ((many + 1) % registers_each) 0 ≡ is_registered slots events e = ap (λ (m : ℕ). eqb ((many + 1) % m) 0) is in
+    elim (eqb_tells (many % registers_each + 1) registers_each) [
+      | inl full ↦ full.0 ∙ sym (ap (λ (n : ℕ). eqb n 0) (next ∙ ap (λ (n : ℕ). n % registers_each) full.1 ∙ mod_self registers_each)) ∙ same
       | inr other ↦
-          let below : many % every < every = mod_below many every (omega (arith, some)) in
-          let less : many % every + 1 < every = omega (arith, below, other.1) in
-          other.0 ∙ sym (ap (λ (n : ℕ). eqb n 0) (next ∙ mod-eq_of_lt less) ∙ eqb_other (many % every + 1) 0 (λ none. omega (arith, none))) ∙ same
+          let below : many % registers_each < registers_each = mod_below many registers_each (omega (arith, some)) in
+          let less : many % registers_each + 1 < registers_each = omega (arith, below, other.1) in
+          other.0 ∙ sym (ap (λ (n : ℕ). eqb n 0) (next ∙ mod-eq_of_lt less) ∙ eqb_other (many % registers_each + 1) 0 (λ none. omega (arith, none))) ∙ same
     ]
 
 -- The lines of the next tick stand behind those before it.

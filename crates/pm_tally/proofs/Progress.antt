@@ -4,11 +4,11 @@ use Rattle.std.proofs.lemmas.List.{append-nil}
 use Rattle.std.specs.List.{All}
 use Rattle.pm_base.specs.Lines.{HasNoLineFeed, lines_of}
 use Rattle.pm_base.specs.declared.code.Code.{Code}
-use Rattle.pm_model.specs.Slot.{Slot}
-use Rattle.pm_model.specs.Inventory.{text_of_lines}
-use Rattle.pm_model.specs.Event.{events_of, refusal}
-use Rattle.pm_model.specs.declared.event.Event.{Event}
-use Rattle.pm_model.proofs.EventLemmas.{events_of-more}
+use Rattle.pm_inventory.specs.Slot.{Slot}
+use Rattle.pm_base.specs.WholeLines.{text_of_lines}
+use Rattle.pm_events.specs.Event.{events_of, refusal}
+use Rattle.pm_events.specs.declared.event.Event.{Event}
+use Rattle.pm_events.proofs.EventLemmas.{events_of-more}
 use Rattle.pm_outside.specs.NextLine.{IsOneLine}
 use Rattle.pm_tally.specs.Tally.{good_behind, good_lines, ended_lines}
 use Rattle.pm_tally.specs.Counting.{Counts}

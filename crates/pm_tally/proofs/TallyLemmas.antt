@@ -5,10 +5,10 @@ use Rattle.std.proofs.lemmas.Grind.{flat_map-append}
 use Rattle.std.proofs.Math.Dec.{eqb}
 use Rattle.std.specs.List.{All, flat_map, enumerate_from, range_with_len}
 use Rattle.pm_base.specs.Moment.{tick_of}
-use Rattle.pm_model.specs.Slot.{Slot}
-use Rattle.pm_model.specs.Event.{last_moment, events_in, registered}
-use Rattle.pm_model.specs.declared.event.Event.{Event}
-use Rattle.pm_model.proofs.EventLemmas.{last_moment-more, events_in-none, registered-none, registered-other}
+use Rattle.pm_inventory.specs.Slot.{Slot}
+use Rattle.pm_events.specs.Event.{last_moment, events_in, registered}
+use Rattle.pm_events.specs.declared.event.Event.{Event}
+use Rattle.pm_events.proofs.EventLemmas.{last_moment-more, events_in-none, registered-none, registered-other}
 use Rattle.pm_tally.specs.Tally.{slot_line, tick_lines, lines_before, ended_lines, all_lines}
 
 -- numbers in a row, in two parts

@@ -10,10 +10,10 @@ use Rattle.std.specs.List.{All, cons_option}
 use Rattle.pm_base.specs.Moment.{tick_of}
 use Rattle.pm_base.specs.declared.code.Code.{Code}
 use Rattle.pm_base.specs.declared.code.Code.TheVariants.{E4, E5}
-use Rattle.pm_model.specs.Slot.{Slot}
-use Rattle.pm_model.specs.Event.{events_of, event_of_result, last_moment, read_event, refusal, refusal_of, order_refusal, registered_in}
-use Rattle.pm_model.specs.declared.event.Event.{Event}
-use Rattle.pm_model.proofs.EventLemmas.{last_moment-more, ordered-more}
+use Rattle.pm_inventory.specs.Slot.{Slot}
+use Rattle.pm_events.specs.Event.{events_of, event_of_result, last_moment, read_event, refusal, refusal_of, order_refusal, registered_in}
+use Rattle.pm_events.specs.declared.event.Event.{Event}
+use Rattle.pm_events.proofs.EventLemmas.{last_moment-more, ordered-more}
 use Rattle.pm_tally.specs.Tally.{good_behind, good_lines, ended_lines, all_lines, tick_lines, text_of_good, tally_text}
 use Rattle.pm_tally.specs.Taking.{WritesSome}
 use Rattle.pm_tally.proofs.TallyLemmas.{ended_lines-same, ended_lines-later, all_lines-ended}

@@ -9,8 +9,8 @@ use Rattle.std.specs.List.{All}
 use Rattle.pm_base.specs.Lines.{HasNoLineFeed, lines_of}
 use Rattle.pm_base.proofs.PiecesLemmas.{some_piece}
 use Rattle.pm_outside.proofs.LinesLemmas.{lines_of-first}
-use Rattle.pm_model.specs.Inventory.{text_of_lines}
-use Rattle.pm_model.specs.WholeLines.{whole_lines, whole_parts}
+use Rattle.pm_base.specs.WholeLines.{text_of_lines}
+use Rattle.pm_base.specs.WholeLines.{whole_lines, whole_parts}
 
 fails : (b : ℕ) → b ≢ 10 → eqb b 10 ≡ false
 fails b other = elim (eqb_tells b 10) [ inl same ↦ absurd (other same.1) | inr differs ↦ differs.0 ]

@@ -3,17 +3,17 @@ use Rattle.std.specs.Prelude.{◌≡◌, ◌+◌, ◌%◌, ◌==◌, ◌<◌, �
 use Rattle.std.specs.List.{slice_index_or}
 use Rattle.pm_base.specs.Moment.{tick_of}
 use Rattle.pm_meas.specs.Cell.{cell_of}
-use Rattle.pm_model.specs.Slot.{Slot}
-use Rattle.pm_model.specs.Event.{last_moment, events_at, every_at, registered_in, values_in}
-use Rattle.pm_model.specs.declared.event.Event.{Event}
+use Rattle.pm_inventory.specs.Slot.{Slot}
+use Rattle.pm_events.specs.Event.{last_moment, events_at, registers_each_at, registered_in, values_in}
+use Rattle.pm_events.specs.declared.event.Event.{Event}
 use Rattle.pm_tally.specs.declared.slot_count.SlotCount.{SlotCount}
 use Rattle.pm_tally.specs.declared.counting.Counting.{Counting}
 
 -- An event of this value is counted. It is registered where as many are now seen as the slot registers one of.
 pub record IsStep (old : SlotCount) (value : ℕ) (new : SlotCount) (is : Bool) : Type 0 where
-  pub every : new.every ≡ old.every
-  pub seen : new.seen ≡ (old.seen + 1) % old.every
-  pub registered : is ≡ ((old.seen + 1) % old.every == 0)
+  pub registers_each : new.registers_each ≡ old.registers_each
+  pub seen : new.seen ≡ (old.seen + 1) % old.registers_each
+  pub registered : is ≡ ((old.seen + 1) % old.registers_each == 0)
   pub cell : MatchBool is ((values : List ℕ) → old.cell ≡ cell_of values → length values < 1073741824 → new.cell ≡ cell_of (values ++ value ∷ [])) (new.cell ≡ old.cell)
 
 -- An event is counted at its slot.
@@ -28,8 +28,8 @@ pub record CountsEvent (old : Counting) (e : Event) (new : Counting) : Type 0 wh
 -- What is kept of the slot at a place in a tick: the fold of its registered values, and how many events it had since the
 -- last one that was registered.
 pub record KeepsSlot (slots : List Slot) (events : List Event) (tick place : ℕ) (count : SlotCount) : Type 0 where
-  pub every : count.every ≡ every_at slots place
-  pub seen : count.seen ≡ length (events_at events place tick) % every_at slots place
+  pub registers_each : count.registers_each ≡ registers_each_at slots place
+  pub seen : count.seen ≡ length (events_at events place tick) % registers_each_at slots place
   pub cell : count.cell ≡ cell_of (values_in slots events place tick)
 
 -- What is kept of a tick.
@@ -45,12 +45,12 @@ pub record Counts (slots : List Slot) (counting : Counting) (events : List Event
   pub tick : KeepsTick slots events (tick_of counting.moment) counting.registered counting.counts.items
 
 -- A count of no event, of a slot that registers one of so many.
-pub record IsClear (every : ℕ) (count : SlotCount) : Type 0 where
+pub record IsClear (registers_each : ℕ) (count : SlotCount) : Type 0 where
   pub cell : count.cell ≡ cell_of []
   pub seen : count.seen ≡ 0
-  pub every_is : count.every ≡ every
+  pub registers_each_is : count.registers_each ≡ registers_each
 
 -- All counts begin anew.
 pub record AreClear (old new : List SlotCount) : Type 0 where
   pub many : length new ≡ length old
-  pub slot : (place : ℕ) (d : SlotCount) → place < length old → IsClear (slice_index_or old place d).every (slice_index_or new place d)
+  pub slot : (place : ℕ) (d : SlotCount) → place < length old → IsClear (slice_index_or old place d).registers_each (slice_index_or new place d)

@@ -1,8 +1,8 @@
 -- What a tally does at the end of its input (this project's own).
 use Rattle.std.specs.Prelude.{◌≡◌, ◌<◌, ◌++◌, ◌∷◌, [], ℕ, List, length, Some, None}
-use Rattle.pm_model.specs.Slot.{Slot}
-use Rattle.pm_model.specs.Event.{events_of, refusal}
-use Rattle.pm_model.specs.declared.event.Event.{Event}
+use Rattle.pm_inventory.specs.Slot.{Slot}
+use Rattle.pm_events.specs.Event.{events_of, refusal}
+use Rattle.pm_events.specs.declared.event.Event.{Event}
 use Rattle.pm_tally.specs.Tally.{ended_lines, all_lines}
 use Rattle.pm_tally.specs.Taking.{WritesSome}
 use Rattle.pm_tally.specs.declared.tally_end.TallyEnd.{TallyEnd}

@@ -3,13 +3,14 @@ use Rattle.std.specs.Prelude.{◌≡◌, ◌+◌, ◌-◌, ◌^◌, ◌<◌, ◌
 use Rattle.pm_base.specs.Lines.{HasNoLineFeed, HasNoLine, lines_of}
 use Rattle.pm_base.specs.declared.code.Code.{Code}
 use Rattle.pm_outside.specs.Feed.{MOST_READ, MOST_AHEAD}
-use Rattle.pm_model.specs.Slot.{Slot, event_slots}
-use Rattle.pm_model.specs.Event.{events_of, refusal}
-use Rattle.pm_model.specs.Inventory.{InventoryState, text_of_lines}
-use Rattle.pm_model.specs.ReadingLines.{IsInventoryOf, IsInventoryRefusal, AddsLines, empty_inventory}
-use Rattle.pm_model.specs.WholeLines.{TakesLines}
-use Rattle.pm_model.specs.declared.reading.InventoryError.{InventoryError}
-use Rattle.pm_model.specs.declared.reading.InventoryError.TheVariants as error
+use Rattle.pm_inventory.specs.Slot.{Slot, event_slots}
+use Rattle.pm_events.specs.Event.{events_of, refusal}
+use Rattle.pm_base.specs.WholeLines.{text_of_lines}
+use Rattle.pm_inventory.specs.Inventory.{InventoryState}
+use Rattle.pm_inventory.specs.InventoryReading.{IsInventoryOf, IsInventoryRefusal, AddsLines, empty_inventory}
+use Rattle.pm_base.specs.WholeLines.{TakesLines}
+use Rattle.pm_inventory.specs.declared.inventory_reading.InventoryError.{InventoryError}
+use Rattle.pm_inventory.specs.declared.inventory_reading.InventoryError.TheVariants as error
 use Rattle.pm_tally.specs.Tally.{AreGood, good_lines, ended_lines, tally_text}
 use Rattle.pm_tally.specs.Taking.{WritesSome}
 use Rattle.pm_tally.specs.declared.tally_end.TallyEnd.{TallyEnd}

@@ -1,9 +1,9 @@
 -- What the plain tally finds (this project's own).
 use Rattle.std.specs.Prelude.{◌≡◌, ◌<◌, ◌≤◌, ℕ, List, [], length, take, Option, Some, None}
 use Rattle.std.specs.List.{slice_index_or}
-use Rattle.pm_model.specs.Slot.{Slot}
-use Rattle.pm_model.specs.Event.{events_of, events_in, registered, refusal}
-use Rattle.pm_model.specs.declared.event.Event.{Event}
+use Rattle.pm_inventory.specs.Slot.{Slot}
+use Rattle.pm_events.specs.Event.{events_of, events_in, registered, refusal}
+use Rattle.pm_events.specs.declared.event.Event.{Event}
 use Rattle.pm_tally.specs.Tally.{AreGood, good_lines, tally_text}
 use Rattle.pm_tally.specs.Outcome.{IsRefused}
 use Rattle.pm_tally.specs.declared.plain_events.GoodEvents.{GoodEvents}

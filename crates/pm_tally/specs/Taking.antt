@@ -1,8 +1,8 @@
 -- What a tally does with a further line (this project's own).
 use Rattle.std.specs.Prelude.{◌≡◌, ◌<◌, ◌++◌, ℕ, Bool, true, false, List, [], ◌∷◌, length, take, Result, Ok, Err, Some, None}
-use Rattle.pm_model.specs.Slot.{Slot}
-use Rattle.pm_model.specs.Event.{events_of, refusal}
-use Rattle.pm_model.specs.declared.event.Event.{Event}
+use Rattle.pm_inventory.specs.Slot.{Slot}
+use Rattle.pm_events.specs.Event.{events_of, refusal}
+use Rattle.pm_events.specs.declared.event.Event.{Event}
 use Rattle.pm_tally.specs.Tally.{ended_lines}
 use Rattle.pm_tally.specs.Counting.{Counts}
 use Rattle.pm_tally.specs.declared.counting.Counting.{Counting}

@@ -4,9 +4,9 @@ use Rattle.std.specs.List.{flat_map, enumerate_from, range_with_len, join_with_b
 use Rattle.std.specs.Fmt.{decimal}
 use Rattle.pm_base.specs.Moment.{tick_of}
 use Rattle.pm_meas.specs.Cell.{reduced}
-use Rattle.pm_model.specs.Slot.{Slot}
-use Rattle.pm_model.specs.Event.{events_of, last_moment, values_in, refusal}
-use Rattle.pm_model.specs.declared.event.Event.{Event}
+use Rattle.pm_inventory.specs.Slot.{Slot}
+use Rattle.pm_events.specs.Event.{events_of, last_moment, values_in, refusal}
+use Rattle.pm_events.specs.declared.event.Event.{Event}
 
 -- A line `MOMENT LDN METRIC VALUE` with its line feed, and nothing where there is no value.
 abbrev pub value_line : ℕ → Slot → Option ℕ → List ℕ

@@ -1,14 +1,14 @@
 //! What a tally keeps of the events so far: of the last tick alone.
 ghost use Rattle.std.specs.Prelude.{◌≡◌, ◌≤◌, ◌*◌, ◌+◌, ◌<◌, ◌++◌, ◌∷◌, [], ℕ, List, None, IsTrue, false, length, map, IfOk, if◌then◌else◌};
 ghost use Rattle.pm_base.specs.Moment.{tick_of};
-ghost use Rattle.pm_model.specs.Slot.{Slot};
-ghost use Rattle.pm_model.specs.Event.{order_refusal};
-ghost use Rattle.pm_model.specs.declared.event.Event.{Event};
+ghost use Rattle.pm_inventory.specs.Slot.{Slot};
+ghost use Rattle.pm_events.specs.Event.{order_refusal};
+ghost use Rattle.pm_events.specs.declared.event.Event.{Event};
 ghost use Rattle.pm_tally.specs.Counting.{AreClear, Counts, CountsEvent};
 
 use crate::slot_count::{MOST_REGISTERED, SlotCount};
 use pm_base::{Code, tick};
-use pm_model::{Event, SlotTable};
+use pm_events::{Event, SlotTable};
 use std::alloc::{AllocError, Global};
 
 /// The last moment, and of its tick how many events were registered and the count of each slot.
@@ -27,7 +27,7 @@ impl Counting {
     {
         let mut counts = Vec::new(alloc);
         for slot in 0..slots.len() {
-            counts.push(SlotCount::new(u32::from(slots.every(slot))))?;
+            counts.push(SlotCount::new(u32::from(slots.registers_each(slot))))?;
         }
         Ok(Counting {
             moment: 0,

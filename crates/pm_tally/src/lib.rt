@@ -2,13 +2,10 @@
 #![tactic(auto)]
 
 mod counting;
-mod event;
-mod last_word;
 mod lines;
 mod plain;
 mod plain_events;
 mod plain_text;
-mod reader;
 mod slot_count;
 mod taking;
 mod tally_end;

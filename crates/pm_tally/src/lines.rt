@@ -3,8 +3,8 @@ ghost use Rattle.std.specs.Prelude.{◌≡◌, ◌≤◌, ◌<◌, ◌+◌, ◌*
 ghost use Rattle.pm_outside.specs.Causes.{faults_after};
 ghost use Rattle.pm_base.specs.Moment.{tick_of};
 ghost use Rattle.pm_meas.specs.Cell.{cell_of};
-ghost use Rattle.pm_model.specs.Slot.{Slot};
-ghost use Rattle.pm_model.specs.declared.event.Event.{Event};
+ghost use Rattle.pm_inventory.specs.Slot.{Slot};
+ghost use Rattle.pm_events.specs.declared.event.Event.{Event};
 ghost use Rattle.pm_tally.specs.Tally.{value_line, slot_line, tick_lines};
 ghost use Rattle.pm_tally.specs.Counting.{Counts};
 ghost use Rattle.pm_tally.specs.Taking.{is_write_failed};
@@ -12,9 +12,9 @@ ghost use Rattle.pm_tally.specs.Taking.{is_write_failed};
 use crate::counting::Counting;
 use itoa::Buffer;
 use pm_base::{TICK_SECONDS, tick};
-use pm_outside::Sink;
+use pm_events::SlotTable;
 use pm_meas::Cell;
-use pm_model::SlotTable;
+use pm_outside::Sink;
 use std::alloc::AllocError;
 
 /// Why lines were not written.

@@ -4,7 +4,7 @@
 ghost use Rattle.std.specs.Prelude.{◌≡◌, ◌≤◌, ◌<◌, ◌+◌, ◌^◌, ◌++◌, ℕ, List, [], map, length, drop, IfOk};
 ghost use Rattle.pm_base.specs.Lines.{lines_of_parts};
 ghost use Rattle.pm_base.specs.Pieces.{pieces_of};
-ghost use Rattle.pm_model.specs.Slot.{event_slots};
+ghost use Rattle.pm_inventory.specs.Slot.{event_slots};
 ghost use Rattle.pm_tally.specs.Outcome.{ran, IsOutcome};
 ghost use Rattle.pm_tally.specs.Plain.{IsByRule, EndsBy};
 
@@ -12,8 +12,9 @@ use crate::TallyEnd;
 use crate::plain_events::{GoodEvents, Refused, good_events, moment_of_last};
 use crate::plain_text::text_before;
 use pm_base::{Blob, Code, tick};
+use pm_events::SlotTable;
+use pm_inventory::{InventoryError, ReadInventory, read_inventory};
 use pm_outside::{Feed, MemSource};
-use pm_model::{InventoryError, ReadInventory, SlotTable, read_inventory};
 use std::alloc::{AllocError, Global};
 
 /// How a tally ends that meets no fault, and what it has written then.

@@ -1,13 +1,12 @@
 //! The events of a whole input, one line after the other, and those that are registered.
 ghost use Rattle.std.specs.Prelude.{◌≡◌, ◌≤◌, ◌<◌, ◌+◌, ◌++◌, List, map, length, Some, None, Ok, IfOk, IfErr, OnOk};
-ghost use Rattle.pm_model.specs.Slot.{Slot};
-ghost use Rattle.pm_model.specs.Event.{last_moment, events_in, events_at, is_registered, registered, registered_one, order_refusal, read_event, refusal};
+ghost use Rattle.pm_inventory.specs.Slot.{Slot};
+ghost use Rattle.pm_events.specs.Event.{last_moment, events_in, events_at, is_registered, registered, registered_one, order_refusal, read_event, refusal};
 ghost use Rattle.pm_tally.specs.Plain.{FindsGood};
 
-use crate::event::read;
 use crate::slot_count::MOST_REGISTERED;
 use pm_base::{Code, tick};
-use pm_model::{Event, SlotTable};
+use pm_events::{Event, SlotTable, read_event};
 use std::alloc::{AllocError, Global};
 
 /// The events of the good lines.
@@ -76,7 +75,7 @@ fn good_event(
     ensures refused { IfErr result (λ code. refusal slots.now earlier.now line.now ≡ Some code) }
     ensures within { IfOk result (λ event. event.slot < length slots.now) }
 {
-    let event = read(slots, line)?;
+    let event = read_event(slots, line)?;
     match refusal_by_order(earlier, before, &event) {
         None => Ok(event),
         Some(code) => Err(code),
@@ -132,8 +131,8 @@ fn counts(slots: &SlotTable, earlier: &[Event], event: &Event) -> bool
     requires { event.now.slot < length slots.now }
     ensures { result ≡ is_registered slots.now earlier.now event.now }
 {
-    let every = usize::from(slots.every(event.slot));
-    count_at(earlier, event.slot, tick(event.moment)) % every + 1 == every
+    let registers_each = usize::from(slots.registers_each(event.slot));
+    count_at(earlier, event.slot, tick(event.moment)) % registers_each + 1 == registers_each
 }
 
 // How many events a slot has in a tick.

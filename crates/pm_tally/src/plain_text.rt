@@ -1,16 +1,16 @@
 //! The lines of ticks, from all registered events.
 ghost use Rattle.std.specs.Prelude.{◌≡◌, ◌≤◌, ◌<◌, ◌+◌, ◌*◌, ◌^◌, ◌++◌, ℕ, List, [], map, length, Some, slice_get, IfOk, OnOk};
 ghost use Rattle.pm_base.specs.Moment.{tick_of};
-ghost use Rattle.pm_model.specs.Slot.{Slot};
-ghost use Rattle.pm_model.specs.Event.{events_in, events_at, registered};
-ghost use Rattle.pm_model.specs.declared.event.Event.{Event};
+ghost use Rattle.pm_inventory.specs.Slot.{Slot};
+ghost use Rattle.pm_events.specs.Event.{events_in, events_at, registered};
+ghost use Rattle.pm_events.specs.declared.event.Event.{Event};
 ghost use Rattle.pm_tally.specs.Tally.{slot_line, tick_lines, lines_before};
 ghost use Rattle.pm_tally.specs.Plain.{AreFew};
 
 use crate::lines::value_text;
 use pm_base::{TICK_SECONDS, tick};
+use pm_events::{Event, SlotTable};
 use pm_meas::plain::value_of;
-use pm_model::{Event, SlotTable};
 use std::alloc::{AllocError, Global};
 
 /// The lines of the ticks before this one, from the events that are registered.

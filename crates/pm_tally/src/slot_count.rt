@@ -12,32 +12,32 @@ pub const MOST_REGISTERED: u32 = 1_073_741_824;
 pub struct SlotCount {
     pub cell: Cell,
     pub seen: u32,
-    pub every: u32,
+    pub registers_each: u32,
     ghost sound: { cell.sum ≤ cell.n * 1048575 },
-    ghost below: { seen < every },
-    ghost range: { every ≤ 1000 },
+    ghost below: { seen < registers_each },
+    ghost range: { registers_each ≤ 1000 },
 }
 
 impl SlotCount {
     ghost use Rattle.pm_tally.specs.Counting.{IsStep, IsClear};
 
     /// Of no event, for a slot that registers one of so many.
-    pub fn new(every: u32) -> SlotCount
-        requires range { (1 ≤ every) × (every ≤ 1000) }
-        ensures { IsClear every result }
+    pub fn new(registers_each: u32) -> SlotCount
+        requires range { (1 ≤ registers_each) × (registers_each ≤ 1000) }
+        ensures { IsClear registers_each result }
     {
         SlotCount {
             cell: Cell::empty(),
             seen: 0,
-            every,
+            registers_each,
         }
     }
 
     /// Begins anew, as at the start of a tick.
     pub fn clear(&mut self)
-        ensures { IsClear self.old.every self.new }
+        ensures { IsClear self.old.registers_each self.new }
     {
-        *self = SlotCount::new(self.every);
+        *self = SlotCount::new(self.registers_each);
     }
 
     /// Counts an event, and answers whether it is registered.
@@ -46,7 +46,7 @@ impl SlotCount {
         ensures { IsStep self.old value self.new result }
     {
         let seen = self.seen + 1;
-        if seen < self.every {
+        if seen < self.registers_each {
             self.seen = seen;
             return false;
         }

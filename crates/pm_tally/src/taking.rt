@@ -1,7 +1,7 @@
 //! What a tally does with a further line.
 ghost use Rattle.std.specs.Prelude.{◌≡◌, ◌++◌, ℕ, List, length};
 ghost use Rattle.pm_outside.specs.Causes.{faults_after};
-ghost use Rattle.pm_model.specs.declared.event.Event.{Event};
+ghost use Rattle.pm_events.specs.declared.event.Event.{Event};
 ghost use Rattle.pm_tally.specs.Counting.{Counts};
 ghost use Rattle.pm_tally.specs.Tally.{ended_lines};
 ghost use Rattle.pm_tally.specs.Taking.{TakesLine, WritesLine, stop_end, is_write_stop};
@@ -9,10 +9,9 @@ ghost use Rattle.pm_tally.specs.Taking.{TakesLine, WritesLine, stop_end, is_writ
 use crate::TallyEnd;
 use crate::counting::Counting;
 use crate::lines::{Fault, write_tick};
-use crate::reader::Reader;
 use pm_base::{Code, tick};
+use pm_events::{Reader, SlotTable};
 use pm_outside::Sink;
-use pm_model::SlotTable;
 
 /// Why a line was not counted.
 #[derive(Clone, Copy, Debug, PartialEq, Eq)]

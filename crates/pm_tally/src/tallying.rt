@@ -2,8 +2,8 @@
 ghost use Rattle.std.specs.Prelude.{◌≡◌, ◌≢◌, ◌+◌, ◌++◌, ◌≤◌, ◌<◌, ◌^◌, [], ℕ, List, length};
 ghost use Rattle.pm_outside.specs.Causes.{faults_after};
 ghost use Rattle.pm_outside.specs.Feed.{left_to, KnowsEnd, MOST_AHEAD};
-ghost use Rattle.pm_model.specs.Slot.{event_slots};
-ghost use Rattle.pm_model.specs.declared.event.Event.{Event};
+ghost use Rattle.pm_inventory.specs.Slot.{event_slots};
+ghost use Rattle.pm_events.specs.declared.event.Event.{Event};
 ghost use Rattle.pm_tally.specs.Tally.{ended_lines};
 ghost use Rattle.pm_tally.specs.Counting.{Counts};
 ghost use Rattle.pm_tally.specs.Ends.{is_read_fault, is_write_fault};
@@ -13,11 +13,11 @@ ghost use Rattle.pm_tally.specs.Outcome.{ran, IsTallied, IsOutcome, end_of_inven
 use crate::TallyEnd;
 use crate::counting::Counting;
 use crate::lines::{Fault, write_tick};
-use crate::reader::Reader;
 use crate::taking::take_line;
 use pm_base::Code;
+use pm_events::{Reader, SlotTable};
+use pm_inventory::{InventoryError, ReadInventory, read_inventory};
 use pm_outside::{Feed, FeedError, NextLine, Sink, Source, next_line};
-use pm_model::{InventoryError, ReadInventory, SlotTable, read_inventory};
 use std::alloc::Global;
 
 // Tallies the lines of events that are left, of which `first` is the number of the first.

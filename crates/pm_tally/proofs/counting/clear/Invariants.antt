@@ -5,6 +5,6 @@ use Rattle.pm_tally.proofs.counting.clear.Given as goal
 
 abbrev pub invariant-loop-count : goal.invariant-loop-count
 invariant-loop-count l = record {
-  done : (place : ℕ) (d : SlotCount) → place < l.count-index → IsClear (get_or l.initial.counts place d).every (get_or l.counts place d);
+  done : (place : ℕ) (d : SlotCount) → place < l.count-index → IsClear (get_or l.initial.counts place d).registers_each (get_or l.counts place d);
   others : (place : ℕ) (d : SlotCount) → l.count-index ≤ place → get_or l.counts place d ≡ get_or l.initial.counts place d;
 }

@@ -1,8 +1,8 @@
 use Rattle.std.proofs.Common.{◌≡◌, ◌<◌, ◌++◌, ℕ, List, [], length, get_or, sym, ◌∙◌, ap, arith}
 use Rattle.pm_meas.specs.Cell.{cell_of}
 use Rattle.pm_meas.specs.declared.kind.Reduce.TheVariants.{Sum}
-use Rattle.pm_model.specs.Slot.{Slot}
-use Rattle.pm_model.specs.Event.{values_in}
+use Rattle.pm_inventory.specs.Slot.{Slot}
+use Rattle.pm_events.specs.Event.{values_in}
 use Rattle.pm_tally.specs.Tally.{tick_lines, slot_line}
 use Rattle.pm_tally.proofs.CountingLemmas.{slice_get-at}
 use Rattle.pm_tally.proofs.LinesLemmas.{lines-next, lines-all}
@@ -13,7 +13,7 @@ loop-slot-preserved c = λ events counts.
     let slots = c.args.slots.now in
     let i = c.loop-slot.slot in
     let tick = c.tick-of_tick.result in
-    let d : Slot = record { object = []; metric = []; reduce = Sum; every = 1 } in
+    let d : Slot = record { object = []; metric = []; reduce = Sum; registers_each = 1 } in
     let within : i < length slots = omega (arith, c.loop-slot-test.true, c.len-slot-end.ensures.value) in
     let keeps = counts.tick.slot i c.index.result.now within in
     let values = values_in slots events i tick in

@@ -1,6 +1,6 @@
 use Rattle.std.proofs.Common.{◌≡◌, List, take}
 use Rattle.std.specs.List.{enumerate_from}
-use Rattle.pm_model.specs.declared.event.Event.{Event}
+use Rattle.pm_events.specs.declared.event.Event.{Event}
 use Rattle.pm_tally.specs.Counting.{Counts}
 use Rattle.pm_tally.proofs.LinesLemmas.{lines_of_slots}
 use Rattle.pm_tally.proofs.lines.tick_text.Given as goal

@@ -1,7 +1,7 @@
 use Rattle.std.proofs.Common.{◌≡◌, ◌+◌, ℕ, List, map, Option, Some, ◌∙◌, ap, subst, arith}
 use Rattle.pm_base.specs.Moment.{tick_of}
-use Rattle.pm_model.specs.Slot.{Slot}
-use Rattle.pm_model.specs.Event.{last_moment, registered}
+use Rattle.pm_inventory.specs.Slot.{Slot}
+use Rattle.pm_events.specs.Event.{last_moment, registered}
 use Rattle.pm_tally.specs.Tally.{lines_before}
 use Rattle.pm_tally.specs.Plain.{FindsFirst, EndsBy}
 use Rattle.pm_tally.specs.declared.plain_events.Refused.{Refused}

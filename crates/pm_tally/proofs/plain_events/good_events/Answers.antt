@@ -1,6 +1,6 @@
 use Rattle.std.proofs.Common.{◌≡◌, ◌++◌, List, ℕ, [], get_or, Some, None, subst, ◌∙◌, ap, Bor, arith}
-use Rattle.pm_model.specs.Event.{refusal, registered_one}
-use Rattle.pm_model.specs.declared.event.Event.{Event}
+use Rattle.pm_events.specs.Event.{refusal, registered_one}
+use Rattle.pm_events.specs.declared.event.Event.{Event}
 use Rattle.pm_tally.proofs.PlainLemmas.{so_far-more, finds_refused, finds_all}
 use Rattle.pm_tally.proofs.plain_events.good_events.Goals as goal
 

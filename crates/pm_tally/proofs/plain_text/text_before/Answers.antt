@@ -1,6 +1,6 @@
 use Rattle.std.proofs.Common.{List, sym, ◌∙◌, ap, arith}
-use Rattle.pm_model.specs.Event.{events_in}
-use Rattle.pm_model.specs.declared.event.Event.{Event}
+use Rattle.pm_events.specs.Event.{events_in}
+use Rattle.pm_events.specs.declared.event.Event.{Event}
 use Rattle.pm_tally.proofs.PlainLemmas.{lines_before-none, text-next}
 use Rattle.pm_tally.proofs.plain_text.text_before.Goals as goal
 

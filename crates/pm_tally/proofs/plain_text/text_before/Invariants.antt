@@ -1,6 +1,6 @@
 use Rattle.std.proofs.Common.{◌≡◌, List}
-use Rattle.pm_model.specs.Event.{registered}
-use Rattle.pm_model.specs.declared.event.Event.{Event}
+use Rattle.pm_events.specs.Event.{registered}
+use Rattle.pm_events.specs.declared.event.Event.{Event}
 use Rattle.pm_tally.specs.Tally.{lines_before}
 use Rattle.pm_tally.proofs.plain_text.text_before.Given as goal
 

@@ -3,10 +3,10 @@ use Rattle.std.proofs.Math.Dec.{eqb}
 use Rattle.std.proofs.lemmas.List.{length-map}
 use Rattle.std.specs.List.{enumerate_from}
 use Rattle.pm_meas.specs.declared.kind.Reduce.TheVariants.{Sum}
-use Rattle.pm_model.specs.Slot.{Slot}
-use Rattle.pm_model.specs.Event.{events_in, events_at, values_in}
-use Rattle.pm_model.specs.declared.event.Event.{Event}
-use Rattle.pm_model.proofs.EventLemmas.{filter_shorter}
+use Rattle.pm_inventory.specs.Slot.{Slot}
+use Rattle.pm_events.specs.Event.{events_in, events_at, values_in}
+use Rattle.pm_events.specs.declared.event.Event.{Event}
+use Rattle.pm_events.proofs.EventLemmas.{filter_shorter}
 use Rattle.pm_tally.specs.Tally.{slot_line}
 use Rattle.pm_tally.proofs.CountingLemmas.{slice_get-at}
 use Rattle.pm_tally.proofs.LinesLemmas.{lines_of_slots, lines-next, lines-all}
@@ -23,7 +23,7 @@ loop-slot-preserved c = λ events is.
     let slots = c.args.slots.now in
     let i = c.loop-slot.slot in
     let tick = c.args.of_tick in
-    let d : Slot = record { object = []; metric = []; reduce = Sum; every = 1 } in
+    let d : Slot = record { object = []; metric = []; reduce = Sum; registers_each = 1 } in
     let within : i < length slots = omega (arith, c.loop-slot-test.true, c.len-slot-end.ensures.value) in
     let values : c.deref.result.now ≡ values_in slots events i tick =
     c.deref.ensures.value ∙ c.in_ok-values.ensures ∙ ap (λ (l : List Event). map (λ e. e.value) (events_at l i tick)) is in

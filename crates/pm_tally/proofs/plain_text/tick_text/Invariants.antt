@@ -1,7 +1,7 @@
 use Rattle.std.proofs.Common.{◌≡◌, ◌++◌, List, take}
 use Rattle.std.specs.List.{enumerate_from}
-use Rattle.pm_model.specs.Event.{registered}
-use Rattle.pm_model.specs.declared.event.Event.{Event}
+use Rattle.pm_events.specs.Event.{registered}
+use Rattle.pm_events.specs.declared.event.Event.{Event}
 use Rattle.pm_tally.proofs.LinesLemmas.{lines_of_slots}
 use Rattle.pm_tally.proofs.plain_text.tick_text.Given as goal
 

@@ -1,6 +1,6 @@
 use Rattle.std.proofs.Common.{List, None, Ok, Err, ap, sym, ◌∙◌, arith, refl, ◌≡◌, ◌≤◌, ◌<◌}
-use Rattle.pm_model.specs.Slot.{Slot}
-use Rattle.pm_model.specs.Event.{read_event, refusal, refusal_of}
+use Rattle.pm_inventory.specs.Slot.{Slot}
+use Rattle.pm_events.specs.Event.{read_event, refusal, refusal_of}
 use Rattle.pm_base.specs.Moment.{tick_of}
 use Rattle.pm_tally.specs.declared.lines.Fault.{Fault}
 use Rattle.pm_tally.proofs.TakingLemmas.{written-same, written-later, written-some, some-later}

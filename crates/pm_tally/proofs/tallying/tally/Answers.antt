@@ -1,6 +1,6 @@
 use Rattle.std.proofs.Common.{◌≡◌, ◌+◌, length, Err, sym, ◌∙◌, ap, subst, arith, refl}
 use Rattle.pm_outside.specs.Feed.{FeedState, left_to}
-use Rattle.pm_model.specs.declared.reading.InventoryError.{InventoryError}
+use Rattle.pm_inventory.specs.declared.inventory_reading.InventoryError.{InventoryError}
 use Rattle.pm_tally.specs.Outcome.{ran, IsOutcome}
 use Rattle.pm_tally.specs.declared.tally_end.TallyEnd.{TallyEnd}
 use Rattle.pm_tally.proofs.OutcomeLemmas.{outcome-read, outcome-unread}

@@ -1,4 +1,4 @@
-use Rattle.pm_model.specs.Slot.{event_slots}
+use Rattle.pm_inventory.specs.Slot.{event_slots}
 use Rattle.pm_tally.proofs.EndLemmas.{none-read}
 use Rattle.pm_tally.proofs.tallying.tally_inventory.Goals as goal
 

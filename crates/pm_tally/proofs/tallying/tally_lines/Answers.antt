@@ -4,7 +4,7 @@ use Rattle.pm_outside.specs.Feed.{left_to}
 use Rattle.pm_outside.specs.NextLine.{GivesNextLine}
 use Rattle.pm_outside.specs.declared.feed.FeedError.{FeedError}
 use Rattle.pm_outside.specs.declared.lines.NextLine.{NextLine}
-use Rattle.pm_model.specs.Event.{events_of}
+use Rattle.pm_events.specs.Event.{events_of}
 use Rattle.pm_tally.specs.Taking.{TakesLine, WritesLine}
 use Rattle.pm_tally.specs.Finishing.{TakesLast, WritesLast}
 use Rattle.pm_tally.specs.Outcome.{ran, IsTallied}
