@@ -1,4 +1,4 @@
--- One more event behind others.
+-- One more event after others.
 use Rattle.std.proofs.Common.{◌≡◌, ◌≢◌, ◌+◌, ◌<◌, ◌≤◌, ℕ, zero, suc, Bool, true, false, cond, List, [], ◌∷◌, ◌++◌, length, map, filter, inl, inr, refl, sym, ◌∙◌, ap, arith, append_assoc, length-append}
 use Rattle.std.proofs.lemmas.List.Sums.{fold-append}
 use Rattle.std.proofs.lemmas.List.Elements.{filter-append, filter_map-append}
@@ -8,8 +8,10 @@ use Rattle.std.proofs.lemmas.Bool.Decides.{eqb_tells}
 use Rattle.std.proofs.Math.Dec.{eqb}
 use Rattle.std.specs.List.{All}
 use Rattle.pm_base.specs.Moment.{tick_of}
+use Rattle.pm_meas.specs.Registered.{registered_after}
+use Rattle.pm_meas.proofs.RegisteredLemmas.{registered_after-more}
 use Rattle.pm_inventory.specs.Slot.{Slot}
-use Rattle.pm_events.specs.Event.{last_moment, events_in, events_at, is_registered, registered_one, registered_behind, registered, registered_in, values_in, events_of, event_of_result, read_event}
+use Rattle.pm_events.specs.Event.{last_moment, events_in, events_at, n_of, number_after, is_registered, registered_one, registered, registered_in, values_in, events_of, event_of_result, read_event}
 use Rattle.pm_events.specs.declared.event.Event.{Event}
 
 -- Its moment is the last one.
@@ -67,17 +69,9 @@ events_at-other events e slot tick is differs =
     ∙ ap (λ (v : Bool). filter p (events_in events tick) ++ cond v (e ∷ []) []) (eqb_other e.slot slot differs)
     ∙ append-nil (filter p (events_in events tick))
 
--- It is registered behind the others, or it isn't.
-registered_behind-more : (slots : List Slot) (earlier events : List Event) (e : Event) → registered_behind slots earlier (events ++ e ∷ []) ≡ registered_behind slots earlier events ++ registered_one slots (earlier ++ events) e
-registered_behind-more slots earlier [] e =
-    append-nil (registered_one slots earlier e) ∙ ap (λ (l : List Event). registered_one slots l e) (sym (append-nil earlier))
-registered_behind-more slots earlier (x ∷ events) e =
-    ap (λ (l : List Event). registered_one slots earlier x ++ l) (registered_behind-more slots (earlier ++ x ∷ []) events e)
-    ∙ ap (λ (l : List Event). registered_one slots earlier x ++ (registered_behind slots (earlier ++ x ∷ []) events ++ registered_one slots l e)) (append_assoc earlier (x ∷ []) events)
-    ∙ sym (append_assoc (registered_one slots earlier x) (registered_behind slots (earlier ++ x ∷ []) events) (registered_one slots (earlier ++ x ∷ events) e))
-
+-- It is registered after the others, or it isn't.
 pub registered-more : (slots : List Slot) (events : List Event) (e : Event) → registered slots (events ++ e ∷ []) ≡ registered slots events ++ registered_one slots events e
-registered-more slots events e = registered_behind-more slots [] events e
+registered-more slots events e = registered_after-more (n_of slots) number_after [] events e
 
 -- One that is registered is the last that is.
 pub registered-last : (slots : List Slot) (events : List Event) (e : Event) → is_registered slots events e ≡ true → registered slots (events ++ e ∷ []) ≡ registered slots events ++ e ∷ []
@@ -102,20 +96,20 @@ one_in-none slots earlier e tick differs = elim (is_registered slots earlier e) 
   | false ↦ refl
 ]
 
-registered_behind-none : (slots : List Slot) (earlier events : List Event) (tick : ℕ) → events_in events tick ≡ [] → events_in (registered_behind slots earlier events) tick ≡ []
-registered_behind-none slots earlier [] tick none = refl
-registered_behind-none slots earlier (e ∷ events) tick none = elim (eqb_tells (tick_of e.moment) tick) [
+registered_after-none : (slots : List Slot) (earlier events : List Event) (tick : ℕ) → events_in events tick ≡ [] → events_in (registered_after (n_of slots) number_after earlier events) tick ≡ []
+registered_after-none slots earlier [] tick none = refl
+registered_after-none slots earlier (e ∷ events) tick none = elim (eqb_tells (tick_of e.moment) tick) [
   | inl same ↦ absurd (cc (sym (ap (λ (v : Bool). cond v (e ∷ events_in events tick) (events_in events tick)) same.0) ∙ none))
   | inr other ↦
       let rest : events_in events tick ≡ [] = sym (ap (λ (v : Bool). cond v (e ∷ events_in events tick) (events_in events tick)) other.0) ∙ none in
       let differs : tick_of e.moment ≢ tick = other.1 in
-      filter-append (λ (x : Event). eqb (tick_of x.moment) tick) (registered_one slots earlier e) (registered_behind slots (earlier ++ e ∷ []) events)
-      ∙ ap (λ (l : List Event). l ++ events_in (registered_behind slots (earlier ++ e ∷ []) events) tick) (one_in-none slots earlier e tick differs)
-      ∙ registered_behind-none slots (earlier ++ e ∷ []) events tick rest
+      filter-append (λ (x : Event). eqb (tick_of x.moment) tick) (registered_one slots earlier e) (registered_after (n_of slots) number_after (earlier ++ e ∷ []) events)
+      ∙ ap (λ (l : List Event). l ++ events_in (registered_after (n_of slots) number_after (earlier ++ e ∷ []) events) tick) (one_in-none slots earlier e tick differs)
+      ∙ registered_after-none slots (earlier ++ e ∷ []) events tick rest
 ]
 
 pub registered-none : (slots : List Slot) (events : List Event) (tick : ℕ) → events_in events tick ≡ [] → events_in (registered slots events) tick ≡ []
-registered-none slots events tick none = registered_behind-none slots [] events tick none
+registered-none slots events tick none = registered_after-none slots [] events tick none
 
 -- Its value is the last of its slot and tick, where it is registered.
 pub values_in-last : (slots : List Slot) (events : List Event) (e : Event) → is_registered slots events e ≡ true → values_in slots (events ++ e ∷ []) e.slot (tick_of e.moment) ≡ values_in slots events e.slot (tick_of e.moment) ++ e.value ∷ []

@@ -31,7 +31,7 @@ cut_off text word rest is =
     ∙ ap (λ (l : List (List ℕ)). word ++ 32 ∷ join_with_byte 32 l) (sym some.2)
     ∙ ap (λ (l : List ℕ). word ++ 32 ∷ l) (join_with_byte-slice_split 32 rest)
 
--- one more element at the front of which a fact holds
+-- one more element at the start of which a fact holds
 All-cons : {A : Type 0} (P : A → Type 0) (x : A) (xs : List A) → P x → All P xs → All P (x ∷ xs)
 All-cons P x xs first all zero d lt = first
 All-cons P x xs first all (suc k) d lt = all k d (omega (arith, lt))

@@ -1,5 +1,5 @@
 -- The place of a slot by its names, and the entries of the slots of an inventory.
-use Rattle.std.proofs.Common.{◌≡◌, ◌≢◌, ◌+◌, ◌<◌, ℕ, zero, suc, Bool, true, false, cond, List, [], ◌∷◌, ◌++◌, length, take, drop, map, get_or, Option, Some, refl, sym, ◌∙◌, ap, subst, arith, append_assoc}
+use Rattle.std.proofs.Common.{◌≡◌, ◌≢◌, ◌+◌, ◌<◌, ◌≤◌, ℕ, zero, suc, Bool, true, false, cond, List, [], ◌∷◌, ◌++◌, length, take, drop, map, get_or, Option, Some, refl, sym, ◌∙◌, ap, subst, arith, append_assoc}
 use Rattle.std.specs.List.{AllPairs, flat_map, position_from, slice_get}
 use Rattle.std.specs.Str.{bytes_eq}
 use Rattle.std.proofs.lemmas.Bool.{false_from_ne_true}
@@ -111,7 +111,7 @@ metric-listed tree defs def i entries is lists =
     rw (more, flat_map-append (slots_of_def tree) (take i defs) (def ∷ []), append-nil (slots_of_def tree def)) lists
 
 -- The entries of an inventory's slots are those of a table.
-pub table-of : (entries : List NamedSlot) (slots : List Slot) → Lists entries slots → AreDistinct slots → AreWords slots → length slots < 4097 → IsTable entries
+pub table-of : (entries : List NamedSlot) (slots : List Slot) → Lists entries slots → AreDistinct slots → AreWords slots → length slots ≤ 4096 → IsTable entries
 table-of entries slots lists distinct words few = record {
   few = omega (arith, few, ap length lists.slots_are, length-map entries slot_of_named);
   named = lists.names_are ∙ ap (map slot_names) (sym lists.slots_are);

@@ -1,5 +1,6 @@
 -- What the fields of a table of slots mean.
 use Rattle.std.specs.Prelude.{◌≡◌, ◌+◌, ◌≤◌, List, length, map, take, drop}
+use Rattle.pm_inventory.specs.declared.inventory.TheConstants.{MAX_SLOTS}
 use Rattle.pm_inventory.specs.Slot.{Slot}
 use Rattle.pm_inventory.specs.SlotNames.{slot_names, AreDistinct, AreWords}
 use Rattle.pm_events.specs.declared.named_slot.NamedSlot.{NamedSlot}
@@ -15,7 +16,7 @@ pub record Lists (entries : List NamedSlot) (slots : List Slot) : Type 0 where
 
 -- The entries of a table.
 pub record IsTable (entries : List NamedSlot) : Type 0 where
-  pub few : length entries ≤ 4096
+  pub few : length entries ≤ MAX_SLOTS
   pub named : map (λ (e : NamedSlot). e.names) entries ≡ map slot_names (map slot_of_named entries)
   pub distinct : AreDistinct (map slot_of_named entries)
   pub words : AreWords (map slot_of_named entries)

@@ -1,5 +1,8 @@
 //! An event of a slot.
 
+/// The most events that are registered in a tick.
+pub const MOST_REGISTERED: u32 = 1_073_741_824;
+
 /// An event: a value of a metric on a measured object at a moment.
 #[derive(Clone, Copy, Debug, PartialEq, Eq)]
 pub struct Event {

@@ -9,9 +9,9 @@ use pm_base::{MOST_LINE, cut_at, read_moment, read_number};
 pub struct EventLine<'a> {
     /// Seconds since 1970-01-01 00:00 UTC.
     pub moment: u64,
-    /// One byte or more, where the distinguished name of the measured object stands.
+    /// One byte or more, where the distinguished name of the measured object is.
     pub object: &'a [u8],
-    /// One byte or more, where the name of the measurement stands.
+    /// One byte or more, where the name of the measurement is.
     pub metric: &'a [u8],
     /// Both names, with the space between.
     pub names: &'a [u8],

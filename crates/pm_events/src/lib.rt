@@ -12,7 +12,7 @@ mod same_names;
 mod slot_places;
 mod slot_table;
 
-pub use event::Event;
+pub use event::{Event, MOST_REGISTERED};
 pub use event_line::{EventLine, read_event_line};
 pub use event_reading::read_event;
 pub use reader::Reader;

@@ -11,7 +11,7 @@ use crate::same_names::is_same;
 use crate::slot_places::{PLACES, SlotPlaces};
 use pm_base::Blob;
 use pm_dn::Tree;
-use pm_inventory::{Inventory, has_class};
+use pm_inventory::{Inventory, MAX_SLOTS, has_class};
 use pm_meas::{Def, Kind, Reduce};
 use std::alloc::{AllocError, Global};
 use std::marker::Model;
@@ -49,7 +49,7 @@ impl SlotTable {
     /// How many slots there are, at most 4,096.
     pub fn len(&self) -> u16
         ensures value { result ≡ length self.now }
-        ensures most { result ≤ 4096 }
+        ensures most { result ≤ MAX_SLOTS }
     {
         self.entries.len() as u16
     }
@@ -142,7 +142,7 @@ impl SlotTable {
 }
 
 fn places_of(alloc: Global, entries: &[NamedSlot]) -> Result<SlotPlaces, AllocError>
-    requires { length entries.now ≤ 4096 }
+    requires { length entries.now ≤ MAX_SLOTS }
 {
     let mut places = SlotPlaces::new(alloc)?;
     for (slot, entry) in entries.iter().enumerate() {
@@ -151,7 +151,7 @@ fn places_of(alloc: Global, entries: &[NamedSlot]) -> Result<SlotPlaces, AllocEr
     Ok(places)
 }
 
-// Puts the slots of all metrics behind the entries.
+// Puts the slots of all metrics after the entries.
 fn list_slots(
     alloc: Global,
     entries: &mut Vec<NamedSlot>,
@@ -170,7 +170,7 @@ fn list_slots(
     Ok(())
 }
 
-// Puts the slots of one metric behind the entries.
+// Puts the slots of one metric after the entries.
 fn list_metric(
     alloc: Global,
     entries: &mut Vec<NamedSlot>,
