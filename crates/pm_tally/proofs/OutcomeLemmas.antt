@@ -1,13 +1,13 @@
 -- The outcome of a whole input.
-use Rattle.std.proofs.Common.{◌≡◌, ◌⊎◌, ◌+◌, ◌-◌, ◌<◌, ◌≤◌, ◌++◌, ◌∷◌, ℕ, zero, suc, List, [], length, take, drop, Err, inl, inr, refl, sym, ◌∙◌, ap, subst, arith, append_assoc, length-append, take-append-drop, length-drop}
+use Rattle.std.proofs.Common.{◌≡◌, ◌+◌, ◌-◌, ◌≤◌, ◌++◌, ◌∷◌, ℕ, zero, suc, List, [], length, take, drop, Err, inl, inr, refl, sym, ◌∙◌, ap, subst, arith, append_assoc, length-append, take-append-drop, length-drop}
 use Rattle.std.proofs.lemmas.List.{append-nil, append_cancel_right}
 use Rattle.std.specs.List.{All}
 use Rattle.pm_base.specs.Lines.{MOST_LINE, HasNoLineFeed, HasNoLine, lines_of}
-use Rattle.pm_outside.specs.Feed.{MOST_READ}
+use Rattle.pm_outside.specs.Feed.{MOST_READ, MOST_AHEAD}
 use Rattle.pm_inventory.specs.Slot.{event_slots}
 use Rattle.pm_base.specs.WholeLines.{text_of_lines}
 use Rattle.pm_inventory.specs.Inventory.{InventoryState}
-use Rattle.pm_inventory.specs.InventoryReading.{AddsLines, empty_inventory, IsRead, ReadsInventory}
+use Rattle.pm_inventory.specs.InventoryReading.{AddsLines, BreaksNone, empty_inventory, IsRead, ReadsInventory}
 use Rattle.pm_inventory.specs.InventoryReading as reading
 use Rattle.pm_inventory.specs.declared.inventory_reading.InventoryError.{InventoryError}
 use Rattle.pm_inventory.specs.declared.inventory_reading.InventoryError.TheVariants as error
@@ -126,14 +126,19 @@ inside input left rest IsTold old b = record {
 }
 
 -- An inventory that is not read.
-pub outcome-unread : (why : InventoryError) (input before after buffered left : List ℕ) (given : ℕ) (IsTold : Type 0) (old : List ℕ) → before ≡ input → ReadsInventory before after (Err why) → after ≡ buffered ++ left → (why ≡ error.Failed → HasNoLine buffered) → given + length after ≡ length input → (why ≡ error.Limit → (given ≤ MOST_READ) × (MOST_READ ≤ given + length after) × HasNoLine (take (MOST_READ - given) after)) → IsOutcome (ran 0 input left IsTold old old) (end_of_inventory why)
-outcome-unread (error.Refused line code) input before after buffered left given IsTold old is read parts failed counted limit =
+pub outcome-unread : (why : InventoryError) (input before after buffered left : List ℕ) (given : ℕ) (IsTold : Type 0) (old : List ℕ) → before ≡ input → ReadsInventory before after (Err why) → after ≡ buffered ++ left → length buffered ≤ MOST_AHEAD → (why ≡ error.Failed → HasNoLine buffered) → given + length after ≡ length input → (why ≡ error.Limit → (given ≤ MOST_READ) × (MOST_READ ≤ given + length after) × HasNoLine (take (MOST_READ - given) after)) → IsOutcome (ran 0 input left IsTold old old) (end_of_inventory why)
+outcome-unread (error.Refused line code) input before after buffered left given IsTold old is read parts few failed counted limit =
     (subst (λ (i : List ℕ). reading.IsInventoryRefusal (lines_of i) line code) is read, λ told. sym (append-nil old))
-outcome-unread error.Memory input before after buffered left given IsTold old is read parts failed counted limit = inr (λ told. sym (append-nil old))
-outcome-unread error.Failed input before after buffered left given IsTold old is read parts failed counted limit =
+outcome-unread error.Memory input before after buffered left given IsTold old is read parts few failed counted limit = inr (record {
+  ahead = buffered;
+  few = few;
+  unbroken = inr (subst (λ (i : List ℕ). BreaksNone i (buffered ++ left)) is (subst (λ (a : List ℕ). BreaksNone before a) parts read));
+  gains = λ told. sym (append-nil old);
+})
+outcome-unread error.Failed input before after buffered left given IsTold old is read parts few failed counted limit =
     let off = cut before after buffered left read parts (failed refl) in
     inr (inside input left left IsTold old (subst (λ (i : List ℕ). Breaks i left) is off))
-outcome-unread error.Limit input before after buffered left given IsTold old is read parts failed counted limit =
+outcome-unread error.Limit input before after buffered left given IsTold old is read parts few failed counted limit =
     let met = limit refl in
     let rest = drop (MOST_READ - given) after in
     let off = cut before after (take (MOST_READ - given) after) rest read (sym (take-append-drop (MOST_READ - given) after)) met.2 in
@@ -142,3 +147,7 @@ outcome-unread error.Limit input before after buffered left given IsTold old is 
       reached = omega (arith, counted, met.0, met.1, length-drop (MOST_READ - given) after);
       inside = inside input left rest IsTold old (subst (λ (i : List ℕ). Breaks i rest) is off);
     })
+
+-- Memory was out before anything was read.
+pub outcome-none : (input : List ℕ) (IsTold : Type 0) (old : List ℕ) → IsOutcome (ran 0 input input IsTold old old) Memory
+outcome-none input IsTold old = inr (record { ahead = []; few = omega arith; unbroken = inl refl; gains = λ told. sym (append-nil old) })

@@ -1,7 +1,7 @@
 -- What ends a tally.
-use Rattle.std.specs.Prelude.{ℕ, Bool, true, false}
+use Rattle.std.specs.Prelude.{Bool, true, false}
 use Rattle.pm_tally.specs.declared.tally_end.TallyEnd.{TallyEnd}
-use Rattle.pm_tally.specs.declared.tally_end.TallyEnd.TheVariants.{Done, Refused, TooLong, ReadFault, WriteFault, BadInventory, Memory}
+use Rattle.pm_tally.specs.declared.tally_end.TallyEnd.TheVariants.{ReadFault, WriteFault}
 
 -- The input failed.
 abbrev pub is_read_fault : TallyEnd → Bool

@@ -1,5 +1,5 @@
 -- How a tally ends, and what it has written then (this project's own).
-use Rattle.std.specs.Prelude.{◌≡◌, ◌+◌, ◌-◌, ◌^◌, ◌<◌, ◌≤◌, ◌⊎◌, ℕ, List, [], ◌∷◌, ◌++◌, length, take, All, Some}
+use Rattle.std.specs.Prelude.{◌≡◌, ◌+◌, ◌<◌, ◌≤◌, ◌⊎◌, ℕ, List, [], ◌∷◌, ◌++◌, length, All, Some}
 use Rattle.pm_base.specs.Lines.{HasNoLineFeed, HasNoLine, lines_of}
 use Rattle.pm_base.specs.declared.code.Code.{Code}
 use Rattle.pm_outside.specs.Feed.{MOST_READ, MOST_AHEAD}
@@ -7,7 +7,7 @@ use Rattle.pm_inventory.specs.Slot.{Slot, event_slots}
 use Rattle.pm_events.specs.Event.{events_of, refusal}
 use Rattle.pm_base.specs.WholeLines.{text_of_lines}
 use Rattle.pm_inventory.specs.Inventory.{InventoryState}
-use Rattle.pm_inventory.specs.InventoryReading.{IsInventoryOf, IsInventoryRefusal, AddsLines, empty_inventory}
+use Rattle.pm_inventory.specs.InventoryReading.{IsInventoryOf, IsInventoryRefusal, AddsLines, BreaksNone, empty_inventory}
 use Rattle.pm_base.specs.WholeLines.{TakesLines}
 use Rattle.pm_inventory.specs.declared.inventory_reading.InventoryError.{InventoryError}
 use Rattle.pm_inventory.specs.declared.inventory_reading.InventoryError.TheVariants as error
@@ -121,6 +121,13 @@ pub record IsInInventory (run : Run) (rest : List ℕ) : Type 0 where
   pub adds : AddsLines empty_inventory lines state
   pub gains : Gains run.output []
 
+-- Memory was out before the inventory was read. No line that was read breaks a rule, if one was, and nothing was written.
+pub record IsUnread (run : Run) : Type 0 where
+  pub ahead : List ℕ
+  pub few : length ahead ≤ MOST_AHEAD
+  pub unbroken : (run.left ≡ run.bytes) ⊎ BreaksNone run.bytes (ahead ++ run.left)
+  pub gains : Gains run.output []
+
 -- As many bytes were read as are read at the most, before the inventory ended.
 pub record IsInventoryTooLong (run : Run) : Type 0 where
   pub rest : List ℕ
@@ -134,7 +141,7 @@ IsOutcome run (Refused line code) = IsTalliedAfter run (Refused line code)
 IsOutcome run TooLong = IsTalliedAfter run TooLong ⊎ IsInventoryTooLong run
 IsOutcome run ReadFault = IsTalliedAfter run ReadFault ⊎ IsInInventory run run.left
 IsOutcome run WriteFault = IsTalliedAfter run WriteFault
-IsOutcome run Memory = IsTalliedAfter run Memory ⊎ Gains run.output []
+IsOutcome run Memory = IsTalliedAfter run Memory ⊎ IsUnread run
 IsOutcome run (BadInventory line code) = IsInventoryRefusal (lines_of run.bytes) line code × Gains run.output []
 
 -- How a tally ends whose inventory is not read.

@@ -3,6 +3,7 @@
 
 mod status;
 mod status_text;
+mod tally_status;
 mod top;
 
 pub use status::Status;

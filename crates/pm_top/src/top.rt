@@ -3,16 +3,12 @@ ghost use Rattle.std.specs.Prelude.{◌≡◌, ◌↔◌, IsTrue};
 ghost use Rattle.pm_outside.specs.Causes.{faults_after};
 ghost use Rattle.pm_tally.specs.Outcome.{ran, IsOutcome};
 ghost use Rattle.pm_top.specs.Words.{AreTally};
-ghost use Rattle.pm_top.specs.Ends.{IsStatusOf, is_read_fault, is_write_fault, status_of_tally};
+ghost use Rattle.pm_top.specs.Ends.{IsStatusOf, is_read_fault, is_write_fault};
 
 use crate::Status;
-use pm_base::Code;
 use pm_outside::{Sink, Source};
-use pm_tally::{TallyEnd, tally};
+use pm_tally::tally;
 use std::alloc::Global;
-
-// The place of a refusal of inputs that are too long: the most bytes that are read.
-const MOST_READ: u64 = 1_099_511_627_776;
 
 /// Does all that the program does, by the words after its name: `tally` reads an inventory and lines of events from the
 /// input and writes their tally.
@@ -32,27 +28,9 @@ pub fn pmd<S: Source, K: Sink>(
     ensures write { K.faults output.new ≡ faults_after (is_write_fault result) (K.faults output.old) }
 {
     if is_tally(words) {
-        status_of_tally(tally(alloc, input, output))
+        Status::from(tally(alloc, input, output))
     } else {
         Status::Usage
-    }
-}
-
-// The status of a tally's end.
-fn status_of_tally(end: TallyEnd) -> Status
-    ensures { result ≡ status_of_tally end }
-{
-    match end {
-        TallyEnd::Done => Status::Done,
-        TallyEnd::Refused { line, code } => Status::BadInput { place: line, code },
-        TallyEnd::TooLong => Status::BadInput {
-            place: MOST_READ,
-            code: Code::Z1,
-        },
-        TallyEnd::ReadFault => Status::ReadFault,
-        TallyEnd::WriteFault => Status::WriteFault,
-        TallyEnd::BadInventory { line, code } => Status::BadInventory { line, code },
-        TallyEnd::Memory => Status::Memory,
     }
 }
 

@@ -1,5 +1,4 @@
-use Rattle.std.proofs.Common.{◌≡◌, ◌<◌, ◌^◌, ◌+◌, ◌∷◌, [], ℕ, List, length, Ok, Err, refl, sym, ◌∙◌, ap, subst, arith}
-use Rattle.pm_base.specs.Lines.{lines_of}
+use Rattle.std.proofs.Common.{◌<◌, ◌^◌, ◌+◌, ℕ, List, length, Ok, Err, refl, sym, ◌∙◌, ap, subst, arith}
 use Rattle.pm_outside.specs.Feed.{left_to}
 use Rattle.pm_outside.specs.NextLine.{GivesNextLine}
 use Rattle.pm_outside.specs.declared.feed.FeedError.{FeedError}
