@@ -82,10 +82,10 @@ pub add_refusal-rule : (tree : List (List ℕ)) (text : List ℕ) (code : TreeEr
 add_refusal-rule tree text code is =
     is
     ∙ sym (rule_of-other code (λ memory.
-        tree-memory (name_refusal text) (is_none (class_of text)) (stands tree text) (is_root text && list_any is_root tree)
-        (not (is_root text) && not (stands tree (superior_text text))) (leb 256 (length tree))
-        (λ named. name_refusal-memory text dn.Memory named refl)
-        (is ∙ ap Some memory)))
+    tree-memory (name_refusal text) (is_none (class_of text)) (stands tree text) (is_root text && list_any is_root tree)
+    (not (is_root text) && not (stands tree (superior_text text))) (leb 256 (length tree))
+    (λ named. name_refusal-memory text dn.Memory named refl)
+    (is ∙ ap Some memory)))
 
 -- no object of the name stands
 pub stands-none : (tree : List (List ℕ)) (text : List ℕ) → ((object : ℕ) → StandsAt tree text object → ⊥) → stands tree text ≡ false

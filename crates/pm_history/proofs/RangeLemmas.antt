@@ -1,5 +1,5 @@
 -- The ranges of a history's moments and values.
-use Rattle.std.proofs.Common.{◌≤◌, ◌*◌, ℕ, Bool, true, false, ◌&&◌, cond, eqb, List, [], ◌∷◌, ◌++◌, arith}
+use Rattle.std.proofs.Common.{◌≤◌, ◌*◌, ℕ, Bool, true, false, ◌&&◌, cond, eqb, List, [], ◌∷◌, arith}
 use Rattle.std.specs.List.{AllByRecursion}
 use Rattle.pm_base.specs.Moment.{IsMoment, tick_of}
 use Rattle.pm_meas.specs.declared.cell.TheConstants.{MAX_VALUE}

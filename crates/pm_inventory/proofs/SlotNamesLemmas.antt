@@ -21,7 +21,6 @@ use Rattle.pm_dn.proofs.TreeLemmas.{StandsAt-alone, IsTree-let_in}
 use Rattle.pm_meas.specs.declared.def.Def.{Def}
 use Rattle.pm_meas.specs.Def.{IsDef}
 use Rattle.pm_meas.specs.Catalogue.{names_of}
-use Rattle.pm_inventory.specs.Inventory.{slots_of, slots_of_metric, key_of}
 use Rattle.pm_inventory.specs.Slot.{Slot, slot_place, slot_of, slots_of_def}
 use Rattle.pm_inventory.specs.SlotNames.{slot_names, names_place, HasNoSpace, IsWord, AreWords, AreDistinct}
 

@@ -1,7 +1,6 @@
 -- What the lines of an inventory add, and why a line is refused (this project's own).
 use Rattle.std.specs.Prelude.{◌≡◌, ◌≢◌, ◌⊎◌, ◌++◌, ℕ, List, [], ◌∷◌, codes, Some, None}
 use Rattle.pm_base.specs.Pieces.{words_of}
-use Rattle.pm_base.specs.declared.code.Code.{Code}
 use Rattle.pm_base.specs.declared.code.Code.TheVariants as code
 use Rattle.pm_dn.specs.Tree.{add_refusal, tree_code}
 use Rattle.pm_dn.specs.declared.error.TreeError.{TreeError}
