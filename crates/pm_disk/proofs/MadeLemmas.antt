@@ -4,14 +4,18 @@ use Rattle.pm_disk.specs.declared.area.Area.{Area}
 use Rattle.pm_disk.specs.declared.area.Area.TheVariants.{First, Second}
 use Rattle.pm_disk.specs.Area.{AreaState, IsWrite, IsCut, IsSync, overwritten}
 use Rattle.pm_disk.specs.Moments.{DiskState, Told, IsStep, of, other}
-use Rattle.pm_disk.specs.Made.{Made, Wrote, CutTo, Synced, Looked, written_to, cut_to, synced_to, with_area, then_state, told_behind, replayed, blank}
+use Rattle.pm_disk.specs.Memory.{Tells}
+use Rattle.pm_disk.specs.Record.{made}
+use Rattle.pm_disk.specs.declared.memory.MemDisk.{MemDisk}
+use Rattle.std.specs.Result.{is_ok}
+use Rattle.pm_disk.specs.Made.{Made, Wrote, CutTo, Synced, Looked, written_to, cut_to, synced_to, with_area, then_state, told_after, replayed, blank}
 
 -- The last call is a step from what the others made.
-pub replayed_push : (told : Told) (calls : List Made) (call : Made) → replayed told (calls ++ call ∷ []) ≡ told_behind (replayed told calls) call
+pub replayed_push : (told : Told) (calls : List Made) (call : Made) → replayed told (calls ++ call ∷ []) ≡ told_after (replayed told calls) call
 replayed_push told [] call = refl
-replayed_push told (first ∷ calls) call = replayed_push (told_behind told first) calls call
+replayed_push told (first ∷ calls) call = replayed_push (told_after told first) calls call
 
-pub replayed_is : (calls calls' : List Made) (call : Made) → calls' ≡ calls ++ call ∷ [] → replayed blank calls' ≡ told_behind (replayed blank calls) call
+pub replayed_is : (calls calls' : List Made) (call : Made) → calls' ≡ calls ++ call ∷ [] → replayed blank calls' ≡ told_after (replayed blank calls) call
 replayed_is calls calls' call is = ap (λ (cs : List Made). replayed blank cs) is ∙ replayed_push blank calls call
 
 pub with_this : (disk : DiskState) (area : Area) (new : AreaState) → of (with_area disk area new) area ≡ new
@@ -73,7 +77,7 @@ step_sync area done result calls calls' is when unless =
 pub replayed_looked : (calls calls' : List Made) → calls' ≡ calls ++ Looked ∷ [] → replayed blank calls' ≡ replayed blank calls
 replayed_looked calls calls' is = replayed_is calls calls' Looked is
 
--- The contents read as the calls made them, before a call on an area and behind it.
+-- The contents read as the calls made them, before a call on an area and after it.
 pub reads_on : (old new : Area → List ℕ) (told told' : Told) (area : Area) (state : AreaState) → ((a : Area) → old a ≡ (of told.now a).seen) → told' ≡ then_state told (with_area told.now area state) → new area ≡ state.seen → new (other area) ≡ old (other area) → (a : Area) → new a ≡ (of told'.now a).seen
 reads_on old new told told' area state reads is this that =
     both (λ (a : Area). new a ≡ (of told'.now a).seen) area
@@ -125,6 +129,20 @@ refused_write {E} area at bytes e told told' is = let failed : Result Unit E = E
   this = record { synced = refl; least = refl; greatest = omega arith; written = inr refl; seen = tt };
   that = refl;
 })
+
+-- A call that is begun makes what it makes, done or failed.
+pub tells_begun : {E : Type 0} (stops : Type 0) (call : Bool → Made) (result : Result Unit E) (old new : MemDisk) → ¬ stops → made new.calls ≡ made old.calls ++ call (is_ok result) ∷ [] → Tells stops call result old new
+tells_begun stops call result old new goes is = record {
+  refused = λ stop. absurd (goes stop);
+  begun = λ _. replayed_is (made old.calls) (made new.calls) (call (is_ok result)) is;
+}
+
+-- One that isn't begun tells nothing new.
+pub tells_refused : {E : Type 0} (stops : Type 0) (call : Bool → Made) (result : Result Unit E) (old new : MemDisk) → stops → made new.calls ≡ made old.calls ++ Looked ∷ [] → Tells stops call result old new
+tells_refused stops call result old new stop is = record {
+  refused = λ _. replayed_looked (made old.calls) (made new.calls) is;
+  begun = λ goes. absurd (goes stop);
+}
 
 pub small_same : (contents : Area → List ℕ) (kept kept' : ℕ) → ((area : Area) → length (contents area) ≤ kept) → kept ≤ kept' → (area : Area) → length (contents area) ≤ kept'
 small_same contents kept kept' small le = λ area. omega (arith, small area, le)

@@ -1,4 +1,4 @@
--- The area is as the journal knows it, behind each call that is Ok.
+-- The area is as the journal knows it, after each call that is Ok.
 use Rattle.std.proofs.Common.{◌≡◌, inl, ℕ, List, [], ◌∷◌, ◌++◌, Option, Some, None, sym, ◌∙◌, subst}
 use Rattle.std.proofs.lemmas.List.{append-nil}
 use Rattle.pm_disk.specs.Area.{AreaState}
