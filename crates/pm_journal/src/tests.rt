@@ -83,6 +83,12 @@ fn a_journal_of_sixteen_bytes_takes_one_item_of_two(rt: HostRuntime) -> Result<(
             need: 22
         })
     );
+    let need = 22;
+    let message = format!(in rt.alloc(); "{}", JournalError::StoreFull { length: 16, need })?;
+    assert_eq!(rt;
+        message.as_str(),
+        "the area has 16 bytes and would need 22, which passes the limit"
+    );
     put(&rt, &mut disk, 12, b"\x03")?;
     let mut journal = Journal::open(rt.alloc(), &mut disk, Area::First, 16)?;
     let garbled = read_all(rt.alloc(), &mut disk, &mut journal);
