@@ -23,14 +23,17 @@ pub length_at_end : (bytes : List ℕ) (items : List (List ℕ)) → IsAtEnd byt
 length_at_end bytes items end = ap length end.is ∙ length-append (prefix items) (end.gate ∷ [])
 
 -- An image whose list ends at a closed gate has that list, and is whole.
-has_before : (image : List ℕ) (items after : List (List ℕ)) → EndsAt image items → length image ≤ 2 ^ 32 → IsWhole image × (HasItems image items ⊎ HasItems image after)
+has_before : (image : List ℕ) (items after : List (List ℕ)) → EndsAt image items → length image ≤ 2 ^ 32
+    → IsWhole image × (HasItems image items ⊎ HasItems image after)
 has_before image items after ends small = (record { ends = inr (items, ends); small = small }, inl (inr (list_of_end image items ends)))
 
-has_after : (image : List ℕ) (items after : List (List ℕ)) → EndsAt image after → length image ≤ 2 ^ 32 → IsWhole image × (HasItems image items ⊎ HasItems image after)
+has_after : (image : List ℕ) (items after : List (List ℕ)) → EndsAt image after → length image ≤ 2 ^ 32
+    → IsWhole image × (HasItems image items ⊎ HasItems image after)
 has_after image items after ends small = (record { ends = inr (after, ends); small = small }, inr (inr (list_of_end image after ends)))
 
 -- While the item is put after the closed gate.
-pub either_staging : (area : Area) (most : ℕ) (old state : DiskState) (items after : List (List ℕ)) → EachFits items → IsAtEnd (of old area).seen items → most ≤ 2 ^ 32 → IsStaging area most old state → HasEither area old items after state
+pub either_staging : (area : Area) (most : ℕ) (old state : DiskState) (items after : List (List ℕ)) → EachFits items
+    → IsAtEnd (of old area).seen items → most ≤ 2 ^ 32 → IsStaging area most old state → HasEither area old items after state
 either_staging area most old state items after fits end small at = record {
   each = λ image is.
       let seen = (of old area).seen in
@@ -43,12 +46,14 @@ either_staging area most old state items after fits end small at = record {
 abbrev pub staged : List (List ℕ) → ℕ → List ℕ → List ℕ
 staged items gate item = prefix items ++ gate ∷ (size_bytes (length item) ++ item ++ 0 ∷ [])
 
-pub staged_from : (seen item : List ℕ) (items : List (List ℕ)) (end : IsAtEnd seen items) → seen ++ size_bytes (length item) ++ item ++ 0 ∷ [] ≡ staged items end.gate item
+pub staged_from : (seen item : List ℕ) (items : List (List ℕ)) (end : IsAtEnd seen items)
+    → seen ++ size_bytes (length item) ++ item ++ 0 ∷ [] ≡ staged items end.gate item
 staged_from seen item items end =
     ap (λ (l : List ℕ). l ++ size_bytes (length item) ++ item ++ 0 ∷ []) end.is
     ∙ simp append_assoc
 
-length-staged : (items : List (List ℕ)) (gate : ℕ) (item : List ℕ) → length (staged items gate item) ≡ length (prefix items) + 6 + length item
+length-staged : (items : List (List ℕ)) (gate : ℕ) (item : List ℕ)
+    → length (staged items gate item) ≡ length (prefix items) + 6 + length item
 length-staged items gate item =
     omega (
       arith,
@@ -58,7 +63,8 @@ length-staged items gate item =
       length-size_bytes (length item),
     )
 
-any_gate : (items : List (List ℕ)) (item : List ℕ) (byte : ℕ) → EachFits items → length item < 2 ^ 32 → length (prefix items) + 6 + length item ≤ 2 ^ 32
+any_gate : (items : List (List ℕ)) (item : List ℕ) (byte : ℕ) → EachFits items → length item < 2 ^ 32
+    → length (prefix items) + 6 + length item ≤ 2 ^ 32
     → IsWhole (staged items byte item) × (HasItems (staged items byte item) items ⊎ HasItems (staged items byte item) (items ++ item ∷ []))
 any_gate items item byte fits item_fits small = elim (cases_eq byte 1) [
   | inl is_open ↦ has_after (staged items byte item) items (items ++ item ∷ []) (record {
@@ -78,7 +84,10 @@ any_gate items item byte fits item_fits small = elim (cases_eq byte 1) [
 ]
 
 -- While its gate is opened.
-pub either_opening : (area : Area) (gate byte : ℕ) (old staging state : DiskState) (items : List (List ℕ)) (item : List ℕ) → EachFits items → gate + 6 + length item ≤ 2 ^ 32 → gate ≡ length (prefix items) → (of staging area).seen ≡ staged items byte item → of staging (other area) ≡ of old (other area) → IsOpening area gate staging state → HasEither area old items (items ++ item ∷ []) state
+pub either_opening : (area : Area) (gate byte : ℕ) (old staging state : DiskState) (items : List (List ℕ)) (item : List ℕ)
+    → EachFits items → gate + 6 + length item ≤ 2 ^ 32 → gate ≡ length (prefix items)
+    → (of staging area).seen ≡ staged items byte item → of staging (other area) ≡ of old (other area)
+    → IsOpening area gate staging state → HasEither area old items (items ++ item ∷ []) state
 either_opening area gate byte old staging state items item fits small gate_is seen_is that_is at = record {
   each = λ image is.
       let image_is = at.images image is in
@@ -88,7 +97,9 @@ either_opening area gate byte old staging state items item fits small gate_is se
   that = at.that ∙ that_is;
 }
 
-pub stored_is : {E : Type 0} (gate byte : ℕ) (new : AreaState) (items : List (List ℕ)) (item seen : List ℕ) (result : Result Unit E) → gate ≡ length (prefix items) → seen ≡ staged items byte item → OnOk result (new ≡ clean (set seen gate 1)) → OnOk result (new ≡ clean (prefix (items ++ item ∷ []) ++ 0 ∷ []))
+pub stored_is : {E : Type 0} (gate byte : ℕ) (new : AreaState) (items : List (List ℕ)) (item seen : List ℕ) (result : Result Unit E)
+    → gate ≡ length (prefix items) → seen ≡ staged items byte item → OnOk result (new ≡ clean (set seen gate 1))
+    → OnOk result (new ≡ clean (prefix (items ++ item ∷ []) ++ 0 ∷ []))
 stored_is gate byte new items item seen (Ok u) gate_is seen_is new_is =
     let opened : set seen gate 1 ≡ staged items 1 item =
     ap (λ (l : List ℕ). set l gate 1) seen_is ∙ set_at (prefix items) byte (size_bytes (length item) ++ item ++ 0 ∷ []) 1 gate (sym gate_is) in
@@ -96,7 +107,8 @@ stored_is gate byte new items item seen (Ok u) gate_is seen_is new_is =
 stored_is gate byte new items item seen (Err e) gate_is seen_is new_is = tt
 
 -- What the area reads then is what it read before, with the item.
-pub grown_is : (gate : ℕ) (new : AreaState) (items : List (List ℕ)) (item seen : List ℕ) → IsAtEnd seen items → gate ≡ length (prefix items) → new ≡ clean (prefix (items ++ item ∷ []) ++ 0 ∷ []) → new.seen ≡ with_item seen gate item
+pub grown_is : (gate : ℕ) (new : AreaState) (items : List (List ℕ)) (item seen : List ℕ) → IsAtEnd seen items
+    → gate ≡ length (prefix items) → new ≡ clean (prefix (items ++ item ∷ []) ++ 0 ∷ []) → new.seen ≡ with_item seen gate item
 grown_is gate new items item seen end gate_is is =
     let kept : take gate seen ≡ prefix items = ap (take gate) end.is ∙ take_at (prefix items) (end.gate ∷ []) gate (sym gate_is) in
     ap (λ (a : AreaState). a.seen) is
@@ -107,7 +119,9 @@ pub fits_given : (bytes : List ℕ) (items : List (List ℕ)) → HasList bytes 
 fits_given bytes items list = EachFits-left items [] list.fits
 
 -- Where no call was made.
-pub either_at_rest : (area : Area) (old : Told) (journal : Journal) (items after : List (List ℕ)) → IsAt journal (of old.now area) items [] → journal.phase ≡ Ready → journal.length ≤ 2 ^ 32 → Throughout (HasEither area old.now items after) old old
+pub either_at_rest : (area : Area) (old : Told) (journal : Journal) (items after : List (List ℕ))
+    → IsAt journal (of old.now area) items [] → journal.phase ≡ Ready → journal.length ≤ 2 ^ 32
+    → Throughout (HasEither area old.now items after) old old
 either_at_rest area old journal items after at ready small = at_rest (HasEither area old.now items after) old (record {
   each = λ image is.
       let seen = (of old.now area).seen in
@@ -118,7 +132,9 @@ either_at_rest area old journal items after at ready small = at_rest (HasEither 
 })
 
 -- The journal after an item that was added.
-pub at_grown : (old new : Journal) (area area' : AreaState) (items : List (List ℕ)) (item : List ℕ) → IsAt old area items [] → old.phase ≡ Ready → length item < 2 ^ 32 → area' ≡ clean (prefix (items ++ item ∷ []) ++ 0 ∷ []) → new.length ≡ old.length + 5 + length item → new.at + 1 ≡ new.length → IsAt new area' (items ++ item ∷ []) []
+pub at_grown : (old new : Journal) (area area' : AreaState) (items : List (List ℕ)) (item : List ℕ) → IsAt old area items []
+    → old.phase ≡ Ready → length item < 2 ^ 32 → area' ≡ clean (prefix (items ++ item ∷ []) ++ 0 ∷ [])
+    → new.length ≡ old.length + 5 + length item → new.at + 1 ≡ new.length → IsAt new area' (items ++ item ∷ []) []
 at_grown old new area area' items item at ready fits is longer gate =
     let more = items ++ item ∷ [] in
     let seen_is : area'.seen ≡ prefix more ++ 0 ∷ [] = ap (λ (a : AreaState). a.seen) is in

@@ -27,7 +27,8 @@ after_clean kept seen area is begins =
     let least : length kept ≤ length seen = omega (arith, ap length begins, length-take (length kept) seen) in
     subst (λ (a : AreaState). IsAfter kept a) (sym is) (record { synced = begins; least = least; written = tt })
 
-pub after_write : {E : Type 0} (kept : List ℕ) (at : ℕ) (bytes : List ℕ) (result : Result Unit E) (old new : AreaState) → IsAfter kept old → length kept ≤ at → IsWrite at bytes result old new → IsAfter kept new
+pub after_write : {E : Type 0} (kept : List ℕ) (at : ℕ) (bytes : List ℕ) (result : Result Unit E) (old new : AreaState)
+    → IsAfter kept old → length kept ≤ at → IsWrite at bytes result old new → IsAfter kept new
 after_write kept at bytes result old new after le write = record {
   synced = ap (λ (l : List ℕ). take (length kept) l) write.synced ∙ after.synced;
   least = omega (arith, after.least, write.least);
@@ -37,7 +38,8 @@ after_write kept at bytes result old new after le write = record {
   ];
 }
 
-pub after_cut : {E : Type 0} (kept : List ℕ) (to : ℕ) (result : Result Unit E) (old new : AreaState) → IsAfter kept old → length kept ≤ to → IsCut to result old new → IsAfter kept new
+pub after_cut : {E : Type 0} (kept : List ℕ) (to : ℕ) (result : Result Unit E) (old new : AreaState) → IsAfter kept old
+    → length kept ≤ to → IsCut to result old new → IsAfter kept new
 after_cut kept to result old new after le cut = record {
   synced = ap (λ (l : List ℕ). take (length kept) l) cut.synced ∙ after.synced;
   least = omega (arith, after.least, cut.least, le);
@@ -49,7 +51,8 @@ outside n i [] all lt = tt
 outside n i (range ∷ ranges) all lt = (inl (omega (arith, all.0)), outside n i ranges all.1 lt)
 
 -- Each image begins with these bytes.
-pub after_image : (kept : List ℕ) (area : AreaState) (image : List ℕ) → IsAfter kept area → IsImage area image → take (length kept) image ≡ kept
+pub after_image : (kept : List ℕ) (area : AreaState) (image : List ℕ) → IsAfter kept area → IsImage area image
+    → take (length kept) image ≡ kept
 after_image kept area image after is =
     let long : length (take (length kept) image) ≡ length kept = omega (arith, length-take (length kept) image, after.least, is.no_shorter) in
     ext_get_or 0 (take (length kept) image) kept long (λ i lt.
@@ -60,14 +63,17 @@ after_image kept area image after is =
     ∙ ap (λ (l : List ℕ). get_or l i 0) after.synced)
 
 -- What is an image after a sync was one before it.
-pub sync_image : {E : Type 0} (result : Result Unit E) (old new : AreaState) → IsImage old old.seen → IsSync result old new → (image : List ℕ) → IsImage new image → IsImage old image
+pub sync_image : {E : Type 0} (result : Result Unit E) (old new : AreaState) → IsImage old old.seen → IsSync result old new
+    → (image : List ℕ) → IsImage new image → IsImage old image
 sync_image (Ok u) old new seen sync image is =
     let same : image ≡ old.seen = only_image old.seen image new sync.done is in
     subst (λ (l : List ℕ). IsImage old l) (sym same) seen
 sync_image (Err e) old new seen sync image is = subst (λ (a : AreaState). IsImage a image) sync.failed is
 
 -- Where one byte is written over, that byte alone may be any.
-pub byte_image : {E : Type 0} (seen : List ℕ) (at byte : ℕ) (result : Result Unit E) (old new : AreaState) → old ≡ clean seen → at < length seen → IsWrite at (byte ∷ []) result old new → (image : List ℕ) → IsImage new image → image ≡ set seen at (get_or image at 0)
+pub byte_image : {E : Type 0} (seen : List ℕ) (at byte : ℕ) (result : Result Unit E) (old new : AreaState) → old ≡ clean seen
+    → at < length seen → IsWrite at (byte ∷ []) result old new → (image : List ℕ) → IsImage new image
+    → image ≡ set seen at (get_or image at 0)
 byte_image seen at byte result old new is_clean lt write image is =
     let synced : new.synced ≡ seen = write.synced ∙ ap (λ (a : AreaState). a.synced) is_clean in
     let least : new.least ≡ length seen = write.least ∙ ap (λ (a : AreaState). a.least) is_clean in

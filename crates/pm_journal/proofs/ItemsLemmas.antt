@@ -42,7 +42,8 @@ item_unique bytes x r y s first second =
     )
 
 -- After the open gate of a block comes its item.
-pub block_item : (item : List ℕ) (items : List (List ℕ)) (gate : ℕ) (rest : List ℕ) → length item < 2 ^ 32 → IsItem ((size_bytes (length item) ++ item ++ blocks items) ++ gate ∷ rest) item (blocks items ++ gate ∷ rest)
+pub block_item : (item : List ℕ) (items : List (List ℕ)) (gate : ℕ) (rest : List ℕ) → length item < 2 ^ 32
+    → IsItem ((size_bytes (length item) ++ item ++ blocks items) ++ gate ∷ rest) item (blocks items ++ gate ∷ rest)
 block_item item items gate rest fits = record {
   is = append_assoc (size_bytes (length item) ++ item) (blocks items) (gate ∷ rest);
   fits = fits;
@@ -50,7 +51,8 @@ block_item item items gate rest fits = record {
 }
 
 -- Where the list stops there is no item after an open gate.
-pub stop_has_no_item : (gate : ℕ) (rest item after : List ℕ) → (gate ≢ 1) ⊎ IsCutShort rest → gate ≡ 1 → IsItem rest item after → ⊥
+pub stop_has_no_item : (gate : ℕ) (rest item after : List ℕ) → (gate ≢ 1) ⊎ IsCutShort rest → gate ≡ 1 → IsItem rest item after
+    → ⊥
 stop_has_no_item gate rest item after (inl closed) is_open is = closed is_open
 stop_has_no_item gate rest item after (inr cut) is_open is = cut item after is
 
@@ -60,7 +62,8 @@ head_of x y xs ys same = cc
 tail_of : (x y : ℕ) (xs ys : List ℕ) → x ∷ xs ≡ y ∷ ys → xs ≡ ys
 tail_of x y xs ys same = cc
 
-same_blocks : (xs ys : List (List ℕ)) (g h : ℕ) (r s : List ℕ) → EachFits xs → EachFits ys → (g ≢ 1) ⊎ IsCutShort r → (h ≢ 1) ⊎ IsCutShort s → blocks xs ++ g ∷ r ≡ blocks ys ++ h ∷ s → xs ≡ ys
+same_blocks : (xs ys : List (List ℕ)) (g h : ℕ) (r s : List ℕ) → EachFits xs → EachFits ys → (g ≢ 1) ⊎ IsCutShort r
+    → (h ≢ 1) ⊎ IsCutShort s → blocks xs ++ g ∷ r ≡ blocks ys ++ h ∷ s → xs ≡ ys
 same_blocks [] [] g h r s xs_fit ys_fit g_stops h_stops same = refl
 same_blocks [] (y ∷ ys) g h r s xs_fit ys_fit g_stops h_stops same =
     let item = block_item y ys h s ys_fit.0 in
@@ -113,12 +116,14 @@ pub prefix-append : (xs ys : List (List ℕ)) (rest : List ℕ) → prefix (xs +
 prefix-append xs ys rest = ap (λ (l : List ℕ). mark ++ l) (blocks-append xs ys rest)
 
 -- The last block, with its gate open.
-pub prefix_push : (items : List (List ℕ)) (item rest : List ℕ) → prefix (items ++ item ∷ []) ++ rest ≡ prefix items ++ 1 ∷ (size_bytes (length item) ++ item ++ rest)
+pub prefix_push : (items : List (List ℕ)) (item rest : List ℕ)
+    → prefix (items ++ item ∷ []) ++ rest ≡ prefix items ++ 1 ∷ (size_bytes (length item) ++ item ++ rest)
 prefix_push items item rest =
     prefix-append items (item ∷ []) rest
     ∙ ap (λ (l : List ℕ). prefix items ++ 1 ∷ (l ++ rest)) (append-nil (size_bytes (length item) ++ item))
 
-pub length-prefix_push : (items : List (List ℕ)) (item : List ℕ) → length (prefix (items ++ item ∷ [])) ≡ length (prefix items) + 5 + length item
+pub length-prefix_push : (items : List (List ℕ)) (item : List ℕ)
+    → length (prefix (items ++ item ∷ [])) ≡ length (prefix items) + 5 + length item
 length-prefix_push items item =
     let body = size_bytes (length item) ++ item ++ [] in
     omega (
@@ -132,7 +137,8 @@ length-prefix_push items item =
     )
 
 -- From the gate after the first items on come the others.
-pub drop_prefix : (xs ys : List (List ℕ)) (rest : List ℕ) → drop (length (prefix xs)) (prefix (xs ++ ys) ++ rest) ≡ blocks ys ++ rest
+pub drop_prefix : (xs ys : List (List ℕ)) (rest : List ℕ)
+    → drop (length (prefix xs)) (prefix (xs ++ ys) ++ rest) ≡ blocks ys ++ rest
 drop_prefix xs ys rest =
     ap (λ (l : List ℕ). drop (length (prefix xs)) l) (prefix-append xs ys rest)
     ∙ drop_at (prefix xs) (blocks ys ++ rest) (length (prefix xs)) refl

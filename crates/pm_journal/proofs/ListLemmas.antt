@@ -32,7 +32,8 @@ below_or_not : (m n : ℕ) → (m < n) ⊎ (n ≤ m)
 below_or_not m n = grind arith
 
 -- The item whose length the first four bytes tell, where it and a byte more lie in the bytes.
-pub found_item : (bytes : List ℕ) (n : ℕ) → size_bytes n ≡ take 4 bytes → n < 2 ^ 32 → 4 + n < length bytes → IsItem bytes (take n (drop 4 bytes)) (drop n (drop 4 bytes))
+pub found_item : (bytes : List ℕ) (n : ℕ) → size_bytes n ≡ take 4 bytes → n < 2 ^ 32 → 4 + n < length bytes
+    → IsItem bytes (take n (drop 4 bytes)) (drop n (drop 4 bytes))
 found_item bytes n same fits inside =
     let long : length (take n (drop 4 bytes)) ≡ n = omega (arith, length-take n (drop 4 bytes), length-drop 4 bytes) in
     record {
@@ -72,7 +73,8 @@ record HasBlocks (bytes : List ℕ) (items : List (List ℕ)) : Type 0 where
   is : bytes ≡ blocks items ++ gate ∷ rest
   stops : (gate ≢ 1) ⊎ IsCutShort rest
 
-push_block : (rest item after : List ℕ) (items : List (List ℕ)) → IsItem rest item after → HasBlocks after items → HasBlocks (1 ∷ rest) (item ∷ items)
+push_block : (rest item after : List ℕ) (items : List (List ℕ)) → IsItem rest item after → HasBlocks after items
+    → HasBlocks (1 ∷ rest) (item ∷ items)
 push_block rest item after items is more = record {
   fits = (is.fits, more.fits);
   gate = more.gate;
@@ -84,7 +86,8 @@ push_block rest item after items is more = record {
   stops = more.stops;
 }
 
-has_blocks : (most : ℕ) (bytes : List ℕ) → length bytes ≤ most → 0 < length bytes → (items : List (List ℕ)) × HasBlocks bytes items
+has_blocks : (most : ℕ) (bytes : List ℕ) → length bytes ≤ most → 0 < length bytes
+    → (items : List (List ℕ)) × HasBlocks bytes items
 has_blocks zero bytes few some = absurd (omega (arith, few, some))
 has_blocks (suc most) [] few some = absurd (omega (arith, some))
 has_blocks (suc most) (gate ∷ rest) few some = elim (cases_eq gate 1) [
@@ -123,7 +126,8 @@ keeps_few before image few also = record {
 }
 
 -- What follows a closed gate doesn't count.
-pub ends_after_gate : (bytes image : List ℕ) (items : List (List ℕ)) (to : ℕ) (ends : EndsAt bytes items) → length (prefix items) + 1 ≡ to → take to image ≡ take to bytes → EndsAt image items
+pub ends_after_gate : (bytes image : List ℕ) (items : List (List ℕ)) (to : ℕ) (ends : EndsAt bytes items)
+    → length (prefix items) + 1 ≡ to → take to image ≡ take to bytes → EndsAt image items
 ends_after_gate bytes image items to ends to_is begins =
     let head : take to bytes ≡ prefix items ++ ends.gate ∷ [] =
     ap (λ (l : List ℕ). take to l) (ends.is ∙ sym (append_assoc (prefix items) (ends.gate ∷ []) ends.rest))
@@ -136,7 +140,8 @@ ends_after_gate bytes image items to ends to_is begins =
       closed = ends.closed;
     }
 
-pub keeps_up_to_gate : (bytes image : List ℕ) (items : List (List ℕ)) (to : ℕ) → EndsAt bytes items → length (prefix items) + 1 ≡ to → take to image ≡ take to bytes → length image ≤ length bytes → KeepsList bytes image
+pub keeps_up_to_gate : (bytes image : List ℕ) (items : List (List ℕ)) (to : ℕ) → EndsAt bytes items
+    → length (prefix items) + 1 ≡ to → take to image ≡ take to bytes → length image ≤ length bytes → KeepsList bytes image
 keeps_up_to_gate bytes image items to ends to_is begins no_longer =
     let there = ends_after_gate bytes image items to ends to_is begins in
     record {

@@ -1,4 +1,4 @@
-use Rattle.std.proofs.Common.{Bool, Result, ◌⊎◌, Ok, Err, false, true, refl, arith, length, length-take, ap}
+use Rattle.std.proofs.Common.{Ok, Err, false, true, refl, arith, length, length-take, ap}
 use Rattle.pm_outside.specs.declared.outside.Failed.{Failed}
 use Rattle.pm_disk.specs.Contents.{content}
 use Rattle.pm_disk.proofs.MadeLemmas.{tells_begun, reads_cut, small_on, small_same, step_cut}
