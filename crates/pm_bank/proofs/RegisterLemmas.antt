@@ -7,10 +7,12 @@ use mathlib.Core.Logic.{dite}
 use native.Mathlib.Decide.{ℕ_discrete}
 use Rattle.pm_meas.specs.declared.cell.Cell.{Cell}
 use Rattle.pm_meas.specs.Cell.{cell_of, with_value}
+use Rattle.pm_meas.specs.Registered as rule
+use Rattle.pm_meas.proofs.RegisteredLemmas.{registered_after-more}
 use Rattle.pm_bank.specs.declared.view.Hit.{Hit}
 use Rattle.pm_bank.specs.Entries.{when, AreSound}
 use Rattle.pm_bank.specs.Run.{AreRunCells, AreBounded, AreBlank}
-use Rattle.pm_bank.specs.Registering.{hits_of, is_registered, registered_behind, registered, with_registered, IsRegistering}
+use Rattle.pm_bank.specs.Registering.{hits_of, n_of, number_after, registered_after, registered, with_registered, IsRegistering}
 use Rattle.pm_bank.proofs.FoldLemmas.{when-same, when-other, when-at_most}
 use Rattle.pm_bank.proofs.TotalLemmas.{length_set}
 use Rattle.pm_bank.proofs.RunLemmas.{folds_one, bounds_one, fold_blank, blank_none, blank_bounded}
@@ -18,24 +20,6 @@ use Rattle.pm_bank.proofs.RunLemmas.{folds_one, bounds_one, fold_blank, blank_no
 hits-append : (s : ℕ) (xs : List Hit) (h : Hit) → hits_of s (xs ++ h ∷ []) ≡ hits_of s xs + when s h.slot 1
 hits-append s [] h = omega arith
 hits-append s (x ∷ xs) h = let more = hits-append s xs h in omega (arith, more)
-
-cond_append : (b : Bool) (x : Hit) (ys zs : List Hit) → cond b (x ∷ ys) ys ++ zs ≡ cond b (x ∷ (ys ++ zs)) (ys ++ zs)
-cond_append true x ys zs = refl
-cond_append false x ys zs = refl
-
--- one more event of the run
-behind-append : (every start : List ℕ) (before xs : List Hit) (h : Hit) → registered_behind every start before (xs ++ h ∷ []) ≡ registered_behind every start before xs ++ cond (is_registered every start (before ++ xs) h) (h ∷ []) []
-behind-append every start before [] h = ap (λ (l : List Hit). cond (is_registered every start l h) (h ∷ []) []) (sym (nil before))
-  where
-    nil : (l : List Hit) → l ++ [] ≡ l
-    nil [] = refl
-    nil (x ∷ xs) = ap (λ (y : List Hit). x ∷ y) (nil xs)
-behind-append every start before (x ∷ xs) h =
-    let next : List Hit = before ++ x ∷ [] in
-    let more : registered_behind every start next (xs ++ h ∷ []) ≡ registered_behind every start next xs ++ cond (is_registered every start (before ++ (x ∷ xs)) h) (h ∷ []) [] =
-    behind-append every start next xs h ∙ ap (λ (l : List Hit). registered_behind every start next xs ++ cond (is_registered every start l h) (h ∷ []) []) (append_assoc before (x ∷ []) xs) in
-    ap (λ (l : List Hit). cond (is_registered every start before x) (x ∷ l) l) more
-    ∙ sym (cond_append (is_registered every start before x) x (registered_behind every start next xs) (cond (is_registered every start (before ++ (x ∷ xs)) h) (h ∷ []) []))
 
 hits-at_most : (s : ℕ) (hs : List Hit) → hits_of s hs ≤ length hs
 hits-at_most s [] = omega arith
@@ -51,16 +35,16 @@ pub start-at_most : (n : ℕ) (every first : List ℕ) (hs : List Hit) (start : 
 start-at_most n every first hs start cells s lt so_far = let m = so_far.moved s lt in let a = hits-at_most s (take n hs) in let b = take-at_most n hs in omega (arith, m, a, b)
 
 -- what is registered of sound events is sound
-pub registered-sound : (slots : ℕ) (every start : List ℕ) (before hs : List Hit) → AreSound slots hs → AreSound slots (registered_behind every start before hs)
+pub registered-sound : (slots : ℕ) (every start : List ℕ) (before hs : List Hit) → AreSound slots hs → AreSound slots (registered_after every start before hs)
 registered-sound slots every start before [] sound = sound
 registered-sound slots every start before (h ∷ hs) sound =
-    by_case (is_registered every start before h) (registered_behind every start (before ++ h ∷ []) hs) (sound 0 h (omega arith)) (registered-sound slots every start (before ++ h ∷ []) hs (λ k d lt. sound (suc k) d (omega (arith, lt))))
+    by_case (rule.is_registered (n_of every h) (number_after start before h)) (registered_after every start (before ++ h ∷ []) hs) (sound 0 h (omega arith)) (registered-sound slots every start (before ++ h ∷ []) hs (λ k d lt. sound (suc k) d (omega (arith, lt))))
   where
     with_one : (rest : List Hit) → (h.slot < slots) × (h.value ≤ 1048575) → AreSound slots rest → AreSound slots (h ∷ rest)
     with_one rest one more zero d lt = one
     with_one rest one more (suc k) d lt = more k d (omega (arith, lt))
 
-    by_case : (b : Bool) (rest : List Hit) → (h.slot < slots) × (h.value ≤ 1048575) → AreSound slots rest → AreSound slots (cond b (h ∷ rest) rest)
+    by_case : (b : Bool) (rest : List Hit) → (h.slot < slots) × (h.value ≤ 1048575) → AreSound slots rest → AreSound slots (cond b (h ∷ []) [] ++ rest)
     by_case true rest one more = with_one rest one more
     by_case false rest one more = more
 
@@ -80,9 +64,9 @@ registering_one every first hs i d start cells in_run sound so_far =
     let one : i + 1 ≡ suc i = omega arith in
     let longer : take (i + 1) hs ≡ take i hs ++ h ∷ [] = ap (λ (n : ℕ). take n hs) one ∙ take-suc hs i d in_run in
     let same_sum : slice_index first h.slot + (hits_of h.slot (take i hs) + 1) ≡ slice_index start h.slot + 1 = (let m = so_far.moved h.slot in_first in omega (arith, m)) in
-    let same_test : is_registered every first (take i hs) h ≡ eqb ((slice_index start h.slot + 1) % slice_index every h.slot) 0 = ap (λ (n : ℕ). eqb (n % slice_index every h.slot) 0) same_sum in
+    let same_test : rule.is_registered (n_of every h) (number_after first (take i hs) h) ≡ eqb ((slice_index start h.slot + 1) % slice_index every h.slot) 0 = ap (λ (n : ℕ). eqb (n % slice_index every h.slot) 0) same_sum in
     let grown : registered every first (take (i + 1) hs) ≡ registered every first (take i hs) ++ cond (eqb ((slice_index start h.slot + 1) % slice_index every h.slot) 0) (h ∷ []) [] =
-    ap (registered every first) longer ∙ behind-append every first [] (take i hs) h ∙ ap (λ (b : Bool). registered every first (take i hs) ++ cond b (h ∷ []) []) same_test in
+    ap (registered every first) longer ∙ registered_after-more (n_of every) (number_after first) [] (take i hs) h ∙ ap (λ (b : Bool). registered every first (take i hs) ++ cond b (h ∷ []) []) same_test in
     record {
       size = by_size (eqb ((slice_index start h.slot + 1) % slice_index every h.slot) 0) h ∙ so_far.size;
       start_size = length_set start h.slot (slice_index start h.slot + 1) ∙ so_far.start_size;

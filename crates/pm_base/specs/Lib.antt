@@ -1,5 +1,6 @@
 pub mod Pieces
 pub mod Lines
+pub mod WholeLines
 pub mod Moment
 pub mod Number
 pub mod Class

@@ -2,6 +2,7 @@
 use Rattle.std.specs.Prelude.{◌+◌, ◌-◌, ◌*◌, ◌&&◌, ℕ, Bool, List, length, nat_le, fold}
 use Rattle.std.specs.List.{list_all}
 use Rattle.std.specs.Char.{is_ascii_digit}
+use Rattle.pm_base.specs.declared.moment.TheConstants.{LAST_MOMENT}
 
 -- Whether the bytes are 1 to so many digits.
 abbrev pub is_number : ℕ → List ℕ → Bool
@@ -17,4 +18,4 @@ number_of digits = fold with_digit 0 digits
 
 -- Whether the bytes are a moment of 1 to 12 digits.
 abbrev pub is_moment : List ℕ → Bool
-is_moment bytes = is_number 12 bytes && nat_le (number_of bytes) 253402300799
+is_moment bytes = is_number 12 bytes && nat_le (number_of bytes) LAST_MOMENT

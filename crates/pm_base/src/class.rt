@@ -18,6 +18,15 @@ pub enum Class {
     NrCellDu,
 }
 
+/// The classes, in byte order of their names.
+pub const CLASSES: [Class; 5] = [
+    Class::GnbCuCp,
+    Class::GnbDu,
+    Class::ManagedElement,
+    Class::NrCellCu,
+    Class::NrCellDu,
+];
+
 impl Class {
     /// The name by which the class stands in distinguished names, inventories and reports.
     pub fn name(self) -> &'static str

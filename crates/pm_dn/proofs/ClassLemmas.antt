@@ -7,8 +7,9 @@ use Rattle.std.proofs.lemmas.Bool.{false_from_ne_true}
 use Rattle.std.proofs.lemmas.Slice.Eq.{bytes_eq-Decides, slice_eq-Decides}
 use Rattle.pm_base.specs.declared.Class.{Class}
 use Rattle.pm_base.specs.declared.Class.TheVariants.{ManagedElement, GnbCuCp, NrCellCu, GnbDu, NrCellDu}
+use Rattle.pm_base.specs.declared.class.TheConstants.{CLASSES}
 use Rattle.pm_base.specs.Class.{class_name}
-use Rattle.pm_dn.specs.Containment.{path_to, all_classes, classes_of, has_path_to, class_of}
+use Rattle.pm_dn.specs.Containment.{path_to, classes_of, has_path_to, class_of}
 
 find-step : {X : Type 0} (here : Bool) (x y : X) (later : Option X) (p : X → Bool) → p x ≡ here → cond here (Some x) later ≡ Some y → (later ≡ Some y → p y ≡ true) → p y ≡ true
 find-step true x y later p passes is rest = let same : x ≡ y = cc in ap p (sym same) ∙ passes
@@ -20,7 +21,7 @@ find-passes p (x ∷ xs) y is = find-step (p x) x y (find p xs) p refl is (find-
 
 -- the parts are the path to the class
 pub has_path_to-class_of : (text : List ℕ) (class : Class) → class_of text ≡ Some class → has_path_to class text ≡ true
-has_path_to-class_of text class is = find-passes (λ class. has_path_to class text) all_classes class is
+has_path_to-class_of text class is = find-passes (λ class. has_path_to class text) CLASSES class is
 
 -- no two classes have one path
 paths-apart : (c d : Class) → pointwise bytes_eq (map class_name (path_to c)) (map class_name (path_to d)) ≡ true → c ≡ d

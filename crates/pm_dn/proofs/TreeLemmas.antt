@@ -1,5 +1,5 @@
 -- What holds of each tree.
-use Rattle.std.proofs.Common.{◌||◌, ◌≡◌, ◌∙◌, ℕ, ◌<◌, ◌&&◌, inl, inr, not, Bool, true, false, List, [], ◌∷◌, ◌++◌, Option, Some, None, length, take, get_or, refl, sym, eqb, leb, arith}
+use Rattle.std.proofs.Common.{◌||◌, ◌≡◌, ◌∙◌, ℕ, ◌<◌, ◌&&◌, inl, inr, not, Bool, true, false, List, [], ◌∷◌, ◌++◌, Option, Some, None, length, take, get_or, refl, sym, ap, eqb, leb, arith}
 use Rattle.std.specs.Prelude.{is_none}
 use Rattle.std.specs.Option.{option_map}
 use Rattle.std.specs.List.{list_any}
@@ -12,9 +12,12 @@ use Rattle.std.proofs.lemmas.List.Folds.{list_any_none, list_any_at}
 use Rattle.std.proofs.lemmas.Slice.Eq.{bytes_eq-Decides}
 use Rattle.pm_dn.specs.Refusal.{when_broken, first_code, name_refusal}
 use Rattle.pm_dn.specs.Containment.{class_of, superior_text}
-use Rattle.pm_dn.specs.Tree.{stands, is_root, add_refusal, IsTree, StandsAt, tree_error}
+use Rattle.pm_dn.specs.Tree.{stands, is_root, add_refusal, rule_of, IsTree, StandsAt, tree_error}
 use Rattle.pm_dn.specs.declared.error.DnError.{DnError}
-use Rattle.pm_dn.specs.declared.error.TreeError.TheVariants.{N6, N7, N8, N9, N10}
+use Rattle.pm_dn.specs.declared.error.DnError.TheVariants as dn
+use Rattle.pm_dn.specs.declared.error.TreeError.{TreeError}
+use Rattle.pm_dn.specs.declared.error.TreeError.TheVariants.{N1, N2, N3, N4, N5, N6, N7, N8, N9, N10, Memory}
+use Rattle.pm_dn.proofs.NameLemmas.{name_refusal-memory}
 
 -- where nothing refuses a further object: what each rule then says
 pub record IsLetIn (tree : List (List ℕ)) (text : List ℕ) : Type 0 where
@@ -45,6 +48,44 @@ IsLetIn-from_refusal tree text none =
       superior = s.4;
       room = leb-false 256 (length tree) s.5;
     }
+
+tree-memory : (r : Option DnError) (a b c d e : Bool) → (r ≡ Some dn.Memory → ⊥) → first_code (option_map tree_error r ∷ when_broken a N6 ∷ when_broken b N8 ∷ when_broken c N10 ∷ when_broken d N7 ∷ when_broken e N9 ∷ []) ≡ Some Memory → ⊥
+tree-memory (Some dn.N4) a b c d e other is = cc
+tree-memory (Some dn.N1) a b c d e other is = cc
+tree-memory (Some dn.N2) a b c d e other is = cc
+tree-memory (Some dn.N3) a b c d e other is = cc
+tree-memory (Some dn.N5) a b c d e other is = cc
+tree-memory (Some dn.Memory) a b c d e other is = other refl
+tree-memory None true b c d e other is = cc
+tree-memory None false true c d e other is = cc
+tree-memory None false false true d e other is = cc
+tree-memory None false false false true e other is = cc
+tree-memory None false false false false true other is = cc
+tree-memory None false false false false false other is = cc
+
+-- an answer other than out of memory names a rule
+pub rule_of-other : (code : TreeError) → (code ≡ Memory → ⊥) → rule_of code ≡ Some code
+rule_of-other N1 other = refl
+rule_of-other N2 other = refl
+rule_of-other N3 other = refl
+rule_of-other N4 other = refl
+rule_of-other N5 other = refl
+rule_of-other N6 other = refl
+rule_of-other N7 other = refl
+rule_of-other N8 other = refl
+rule_of-other N9 other = refl
+rule_of-other N10 other = refl
+rule_of-other Memory other = absurd (other refl)
+
+-- no rule is out of memory
+pub add_refusal-rule : (tree : List (List ℕ)) (text : List ℕ) (code : TreeError) → add_refusal tree text ≡ Some code → add_refusal tree text ≡ rule_of code
+add_refusal-rule tree text code is =
+    is
+    ∙ sym (rule_of-other code (λ memory.
+        tree-memory (name_refusal text) (is_none (class_of text)) (stands tree text) (is_root text && list_any is_root tree)
+        (not (is_root text) && not (stands tree (superior_text text))) (leb 256 (length tree))
+        (λ named. name_refusal-memory text dn.Memory named refl)
+        (is ∙ ap Some memory)))
 
 -- no object of the name stands
 pub stands-none : (tree : List (List ℕ)) (text : List ℕ) → ((object : ℕ) → StandsAt tree text object → ⊥) → stands tree text ≡ false

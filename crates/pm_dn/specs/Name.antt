@@ -3,6 +3,7 @@ use Rattle.std.specs.Prelude.{◌≡◌, ◌≤◌, ◌==◌, ℕ, Bool, List, �
 use Rattle.std.specs.List.{join_with_byte, before_first, after_first}
 use Rattle.pm_base.specs.Names.{IsDnClass, IsDnId}
 use Rattle.pm_base.specs.Pieces.{pieces_of}
+use Rattle.pm_dn.specs.declared.refusal.TheConstants.{NAME_BYTES, NAME_PARTS}
 
 -- One part of a name: a class, and the id of the object below its superior.
 pub record Part : Type 0 where
@@ -27,8 +28,8 @@ pub record IsNameOf (bytes : List ℕ) (name : List Part) : Type 0 where
   pub text : name_text name ≡ bytes
   pub parts : All IsPart name
   pub least : 1 ≤ length name
-  pub most : length name ≤ 8
-  pub short : length bytes ≤ 256
+  pub most : length name ≤ NAME_PARTS
+  pub short : length bytes ≤ NAME_BYTES
 
 -- The byte between class and id.
 abbrev pub is_equals : ℕ → Bool

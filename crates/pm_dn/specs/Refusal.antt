@@ -4,6 +4,8 @@ use Rattle.std.specs.List.{list_any, list_all}
 use Rattle.std.specs.Char.{is_ascii_alphabetic, is_ascii_alphanumeric}
 use Rattle.pm_base.specs.Names.{is_name_char}
 use Rattle.pm_base.specs.Pieces.{pieces_of}
+use Rattle.pm_base.specs.declared.names.TheConstants.{WORD_BYTES}
+use Rattle.pm_dn.specs.declared.refusal.TheConstants.{NAME_BYTES, NAME_PARTS}
 use Rattle.pm_dn.specs.Name.{part_of, is_equals}
 use Rattle.pm_dn.specs.declared.error.DnError.{DnError}
 use Rattle.pm_dn.specs.declared.error.DnError.TheVariants.{N1, N2, N3, N4, N5}
@@ -34,14 +36,14 @@ part_refusal piece =
     ∷ when_broken (not (list_any is_equals piece)) N2
     ∷ when_broken (length (part_of piece).class == 0 || length (part_of piece).id == 0) N1
     ∷ when_broken (not (is_of_class_alphabet (part_of piece).class && is_of_id_alphabet (part_of piece).id)) N3
-    ∷ when_broken (nat_lt 64 (length (part_of piece).class) || nat_lt 64 (length (part_of piece).id)) N4
+    ∷ when_broken (nat_lt WORD_BYTES (length (part_of piece).class) || nat_lt WORD_BYTES (length (part_of piece).id)) N4
     ∷ [])
 
 -- The rules of a text, in their order: its length, the parts one after the other, and their number.
 abbrev pub name_refusal : List ℕ → Option DnError
 name_refusal bytes =
     first_code
-    (when_broken (nat_lt 256 (length bytes)) N4
+    (when_broken (nat_lt NAME_BYTES (length bytes)) N4
     ∷ first_code (map part_refusal (pieces_of 44 bytes))
-    ∷ when_broken (nat_lt 8 (length (pieces_of 44 bytes))) N5
+    ∷ when_broken (nat_lt NAME_PARTS (length (pieces_of 44 bytes))) N5
     ∷ [])

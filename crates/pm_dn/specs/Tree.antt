@@ -1,13 +1,16 @@
 -- The tree of managed objects: the texts of their names, in the order in which they were added (this project's own).
-use Rattle.std.specs.Prelude.{◌≡◌, ◌<◌, ◌&&◌, ℕ, Bool, not, nat_le, is_none, Option, None, MatchOption, List, [], ◌∷◌, length, map, take, filter, slice_index_or}
+use Rattle.std.specs.Prelude.{◌≡◌, ◌<◌, ◌&&◌, ℕ, Bool, not, nat_le, is_none, Option, Some, None, MatchOption, List, [], ◌∷◌, length, map, take, filter, slice_index_or}
 use Rattle.std.specs.List.{list_any, starts_with, enumerate_from}
 use Rattle.std.specs.Option.{option_map}
 use Rattle.std.specs.Str.{bytes_eq}
 use Rattle.pm_base.specs.declared.Class.{Class}
 use Rattle.pm_base.specs.declared.Class.TheVariants.{ManagedElement}
+use Rattle.pm_base.specs.declared.code.Code.{Code}
+use Rattle.pm_base.specs.declared.code.Code.TheVariants as code
 use Rattle.pm_dn.specs.Name.{Part, name_of}
 use Rattle.pm_dn.specs.Refusal.{when_broken, first_code, name_refusal}
 use Rattle.pm_dn.specs.Containment.{has_path_to, class_of, superior_text}
+use Rattle.pm_dn.specs.declared.tree.TheConstants.{MAX_OBJECTS}
 use Rattle.pm_dn.specs.declared.error.DnError.{DnError}
 use Rattle.pm_dn.specs.declared.error.TreeError.{TreeError}
 use Rattle.pm_dn.specs.declared.error.DnError.TheVariants as dn
@@ -21,6 +24,20 @@ tree_error dn.N2 = N2
 tree_error dn.N3 = N3
 tree_error dn.N5 = N5
 tree_error dn.Memory = Memory
+
+-- The code of an answer.
+abbrev pub tree_code : TreeError → Code
+tree_code N1 = code.N1
+tree_code N2 = code.N2
+tree_code N3 = code.N3
+tree_code N4 = code.N4
+tree_code N5 = code.N5
+tree_code N6 = code.N6
+tree_code N7 = code.N7
+tree_code N8 = code.N8
+tree_code N9 = code.N9
+tree_code N10 = code.N10
+tree_code Memory = code.MEM
 
 -- Whether an object of this name stands.
 abbrev pub stands : List (List ℕ) → List ℕ → Bool
@@ -47,8 +64,13 @@ add_refusal tree text =
     ∷ when_broken (stands tree text) N8
     ∷ when_broken (is_root text && list_any is_root tree) N10
     ∷ when_broken (not (is_root text) && not (stands tree (superior_text text))) N7
-    ∷ when_broken (nat_le 256 (length tree)) N9
+    ∷ when_broken (nat_le MAX_OBJECTS (length tree)) N9
     ∷ [])
+
+-- The rule that an answer names; out of memory names none.
+abbrev pub rule_of : TreeError → Option TreeError
+rule_of Memory = None
+rule_of e = Some e
 
 -- Each object was one that the objects before it let in.
 abbrev pub IsTree : List (List ℕ) → Type 0

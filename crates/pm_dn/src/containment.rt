@@ -9,7 +9,7 @@ ghost use Rattle.pm_dn.specs.Containment.{path_to, has_path_to, class_of, superi
 
 use crate::pieces::{Pieces, class_and_id};
 use memchr::memrchr;
-use pm_base::Class;
+use pm_base::{CLASSES, Class};
 
 /// The classes from the root down to this class.
 fn path_to(class: Class) -> &'static [Class]
@@ -60,13 +60,6 @@ pub(crate) fn has_path_to(class: Class, name: &[u8]) -> bool
 pub(crate) fn class_of(name: &[u8]) -> Option<Class>
     ensures { result ≡ class_of name.now }
 {
-    const CLASSES: [Class; 5] = [
-        Class::ManagedElement,
-        Class::GnbCuCp,
-        Class::NrCellCu,
-        Class::GnbDu,
-        Class::NrCellDu,
-    ];
     CLASSES
         .iter()
         .copied()

@@ -1,6 +1,8 @@
 //! Why a name or an object is refused.
 ghost use Rattle.std.specs.Prelude.{◌≡◌};
-ghost use Rattle.pm_dn.specs.Tree.{tree_error};
+ghost use Rattle.pm_dn.specs.Tree.{tree_error, tree_code};
+
+use pm_base::Code;
 
 /// Why bytes are not a distinguished name: the first rule broken.
 #[derive(Clone, Copy, Debug, PartialEq, Eq)]
@@ -15,7 +17,7 @@ pub enum DnError {
     N3,
     /// The name has over 8 parts.
     N5,
-    /// Memory is wanting.
+    /// Out of memory.
     Memory,
 }
 
@@ -34,15 +36,15 @@ pub enum TreeError {
     N5,
     /// The classes of the parts aren't a path of the containment, from ManagedElement down.
     N6,
-    /// An object of this name stands.
+    /// An object of this name exists.
     N8,
-    /// A ManagedElement stands already.
+    /// A ManagedElement exists already.
     N10,
-    /// The object that contains this one doesn't stand.
+    /// The object that contains this one doesn't exist.
     N7,
-    /// 256 objects stand.
+    /// `MAX_OBJECTS` exist.
     N9,
-    /// Memory is wanting.
+    /// Out of memory; no rule is broken.
     Memory,
 }
 
@@ -57,6 +59,27 @@ impl From<DnError> for TreeError {
             DnError::N3 => TreeError::N3,
             DnError::N5 => TreeError::N5,
             DnError::Memory => TreeError::Memory,
+        }
+    }
+}
+
+impl TreeError {
+    /// The code by which the refusal is told.
+    pub fn code(&self) -> Code
+        ensures { result ≡ tree_code self.now }
+    {
+        match self {
+            TreeError::N1 => Code::N1,
+            TreeError::N2 => Code::N2,
+            TreeError::N3 => Code::N3,
+            TreeError::N4 => Code::N4,
+            TreeError::N5 => Code::N5,
+            TreeError::N6 => Code::N6,
+            TreeError::N7 => Code::N7,
+            TreeError::N8 => Code::N8,
+            TreeError::N9 => Code::N9,
+            TreeError::N10 => Code::N10,
+            TreeError::Memory => Code::MEM,
         }
     }
 }

@@ -15,5 +15,5 @@ mod tree;
 
 pub use dn::Dn;
 pub use error::{DnError, TreeError};
-pub use refusal::{NAME_BYTES, NAME_PARTS, WORD_BYTES};
-pub use tree::{OBJECTS, Tree};
+pub use refusal::{NAME_BYTES, NAME_PARTS};
+pub use tree::{MAX_OBJECTS, Tree};

@@ -6,15 +6,13 @@ ghost use Rattle.pm_dn.specs.Refusal.{part_refusal, name_refusal, is_of_class_al
 
 use crate::error::DnError;
 use crate::pieces::{Pieces, class_and_id};
+use pm_base::WORD_BYTES;
 
 /// The most bytes of a name.
 pub const NAME_BYTES: usize = 256;
 
 /// The most parts of a name.
 pub const NAME_PARTS: usize = 8;
-
-/// The most bytes of a class or an id.
-pub const WORD_BYTES: usize = 64;
 
 fn is_alphanumeric(bytes: &[u8]) -> bool
     ensures { result ≡ list_all is_ascii_alphanumeric bytes.now }

@@ -1,9 +1,9 @@
 //! The tree of managed objects.
-ghost use Rattle.std.specs.Prelude.{◌≡◌, ◌<◌, ◌≤◌, ◌+◌, ◌==◌, ◌++◌, ◌⊎◌, ℕ, [], ◌∷◌, length, IfSome, IfOk, IfErr, OnOk, OnErr, Some, None, slice_index_or};
+ghost use Rattle.std.specs.Prelude.{◌≡◌, ◌<◌, ◌≤◌, ◌+◌, ◌==◌, ◌++◌, ℕ, [], ◌∷◌, length, IfSome, IfOk, IfErr, OnOk, OnErr, Some, None, slice_index_or};
 ghost use Rattle.std.specs.List.{list_any};
 ghost use Rattle.pm_dn.specs.Refusal.{name_refusal};
 ghost use Rattle.pm_dn.specs.Containment.{class_of};
-ghost use Rattle.pm_dn.specs.Tree.{add_refusal, IsTree, StandsAt, FindsObject, stands, is_root, subtree_of, objects_of};
+ghost use Rattle.pm_dn.specs.Tree.{add_refusal, rule_of, IsTree, StandsAt, FindsObject, stands, is_root, subtree_of, objects_of};
 
 use crate::containment::{class_of, has_path_to, is_under, superior};
 use crate::error::TreeError;
@@ -15,7 +15,7 @@ use std::alloc::{AllocError, Global};
 use std::marker::Model;
 
 /// The most objects of a tree.
-pub const OBJECTS: usize = 256;
+pub const MAX_OBJECTS: usize = 256;
 
 /// The objects of an inventory, seen by contracts as the list of their names' texts in the order in which they were added.
 /// An object's number is its place in that list, less than `len`.
@@ -53,7 +53,7 @@ impl Tree {
     /// How many objects stand.
     pub fn len(&self) -> u16
         ensures value { result ≡ length self.now }
-        ensures most { result ≤ 256 }
+        ensures most { result ≤ MAX_OBJECTS }
         ensures let_in { IsTree self.now }
     {
         self.objects.len() as u16
@@ -157,7 +157,7 @@ impl Tree {
         } else if !self.stands(superior(name)) {
             return Err(TreeError::N7);
         }
-        if self.objects.len() >= OBJECTS {
+        if self.objects.len() >= MAX_OBJECTS {
             return Err(TreeError::N9);
         }
         Ok(class)
@@ -169,7 +169,9 @@ impl Tree {
         ensures added { OnOk result (self.new ≡ self.old ++ name.now ∷ []) }
         ensures let_in { OnOk result (add_refusal self.old name.now ≡ None) }
         ensures stays { OnErr result (self.new ≡ self.old) }
-        ensures refused { IfErr result (λ code. (code ≡ TreeError.Memory) ⊎ (add_refusal self.old name.now ≡ Some code)) }
+
+        // The first rule broken. Out of memory comes only where none is.
+        ensures refused { IfErr result (λ code. add_refusal self.old name.now ≡ rule_of code) }
     {
         let class = self.admit(name)?;
         let object = self.objects.len() as u16;

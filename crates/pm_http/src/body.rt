@@ -1,7 +1,7 @@
 //! The reading of a body.
 ghost use Rattle.std.specs.Prelude.{◌≡◌, ◌≢◌, ◌≤◌, ◌+◌, ◌<◌, false, Ok, Err, length, vec_len, IfOk};
 ghost use Rattle.pm_outside.specs.Causes.{faults_after};
-ghost use Rattle.pm_outside.specs.Feed.{left_to, KnowsEnd, MOST_READ, ReadsOn};
+ghost use Rattle.pm_outside.specs.Feed.{left_to, KnowsEnd, MOST_READ, MOST_AHEAD, ReadsOn};
 ghost use Rattle.pm_http.specs.Stream.{is_read_fault};
 ghost use Rattle.pm_http.specs.Piece.{BodyStops, Fills, FailsInBody};
 
@@ -24,6 +24,7 @@ pub fn fill<S: Source>(
     body: &mut Vec<u8>,
 ) -> Result<bool, HttpError>
     requires within { feed.old.given ≤ MOST_READ }
+    requires ahead { length feed.old.buffered ≤ MOST_AHEAD }
     requires knows_end { S.IsTold → KnowsEnd feed.old (S.left source.old) }
     ensures fills { S.IsTold → IfOk result (Fills (left_to feed.old (S.left source.old)) (left_to feed.new (S.left source.new)) body.new.items) }
     ensures room { vec_len body.new ≡ vec_len body.old }

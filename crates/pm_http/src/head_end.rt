@@ -2,7 +2,7 @@
 ghost use Rattle.std.specs.Prelude.{◌≡◌, ◌≢◌, ◌<◌, ◌≤◌, ◌++◌, false, [], ℕ, List, None, length, vec_len, IfOk, IfErr, OnOk, IfSome};
 ghost use Rattle.httparse.specs.Grammar.{HasNoRequest};
 ghost use Rattle.pm_outside.specs.Causes.{faults_after};
-ghost use Rattle.pm_outside.specs.Feed.{left_to, KnowsEnd, MOST_READ, ReadsOn};
+ghost use Rattle.pm_outside.specs.Feed.{left_to, KnowsEnd, MOST_READ, MOST_AHEAD, ReadsOn};
 ghost use Rattle.pm_http.specs.Stream.{MOST_HEAD, looked_at, is_read_fault};
 ghost use Rattle.pm_http.specs.Piece.{MOST_PIECE, Gathers, Grows, StopsInHead, EndsHead, StepsHead, HeadStands, PieceStands, IsBegun, IsLast, ShowsEnd, MayGrow};
 
@@ -46,6 +46,7 @@ pub fn read_head<S: Source>(
     fields: &mut [HeaderSpan],
 ) -> Result<HeadEnd, HttpError>
     requires within { feed.old.given ≤ MOST_READ }
+    requires ahead { length feed.old.buffered ≤ MOST_AHEAD }
     requires knows_end { S.IsTold → KnowsEnd feed.old (S.left source.old) }
     requires empty { head.old.items ≡ [] }
     requires room { length fields.old ≡ 64 }
@@ -74,6 +75,7 @@ fn read_on<S: Source>(
     begun: &mut bool,
 ) -> Result<Option<HeadEnd>, HttpError>
     requires within { feed.old.given ≤ MOST_READ }
+    requires ahead { length feed.old.buffered ≤ MOST_AHEAD }
     requires knows_end { S.IsTold → KnowsEnd feed.old (S.left source.old) }
     requires few { vec_len head.old < MOST_HEAD }
     requires room { length fields.old ≡ 64 }

@@ -4,7 +4,7 @@ ghost use Rattle.std.specs.List.{All};
 ghost use Rattle.httparse.specs.Grammar.{RequestHead};
 ghost use Rattle.httparse.specs.Spans.{IsRequestAt, IsHeaderWithin, header_bytes};
 ghost use Rattle.pm_outside.specs.Causes.{faults_after};
-ghost use Rattle.pm_outside.specs.Feed.{left_to, KnowsEnd, MOST_READ, ReadsOn};
+ghost use Rattle.pm_outside.specs.Feed.{left_to, KnowsEnd, MOST_READ, MOST_AHEAD, ReadsOn};
 ghost use Rattle.pm_http.specs.Head.{body_size, first_of, values_of, IsWithinLimit};
 ghost use Rattle.pm_http.specs.Stream.{MOST_HEAD, StopsAtFault, StopsForMemory, is_read_fault, StopsAtLimit, MayBeTold, readable, IsNext, IsPlaced, IsSmall, IsOf};
 ghost use Rattle.pm_http.specs.Piece.{IsGathered, IsParsed, StopsAfterHead};
@@ -73,6 +73,7 @@ fn read_request<S: Source>(
     offset: u64,
 ) -> Result<Next, HttpError>
     requires within { feed.old.given ≤ MOST_READ }
+    requires ahead { length feed.old.buffered ≤ MOST_AHEAD }
     requires begins { S.IsTold → offset ≡ feed.old.given }
     requires knows_end { S.IsTold → KnowsEnd feed.old (S.left source.old) }
     ensures next { S.IsTold → IfOk result (λ next. IsNext (left_to feed.old (S.left source.old)) offset next (left_to feed.new (S.left source.new))) }
@@ -119,6 +120,7 @@ fn read_rest<S: Source>(
 ) -> Result<Next, HttpError>
     requires knows_end { S.IsTold → KnowsEnd feed.old (S.left source.old) }
     requires within { feed.old.given ≤ MOST_READ }
+    requires ahead { length feed.old.buffered ≤ MOST_AHEAD }
     requires parsed { IsParsed head.now fields.now spans }
     ensures next { S.IsTold → (all : List ℕ) → IsGathered all head.now (left_to feed.old (S.left source.old)) fields.now spans → IfOk result (λ next. IsNext all offset next (left_to feed.new (S.left source.new))) }
     ensures placed { IfOk result (IsPlaced offset) }

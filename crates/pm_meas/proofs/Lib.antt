@@ -4,3 +4,4 @@ pub mod CatalogueLemmas
 pub mod BreaksLemmas
 pub mod FamilyLemmas
 pub mod TextLemmas
+pub mod RegisteredLemmas

@@ -1,3 +1,4 @@
 pub mod Cell
 pub mod Def
 pub mod Catalogue
+pub mod Registered

@@ -214,7 +214,7 @@ impl Catalogue {
     fn push(&mut self, line: &Line) -> Result<u8, AllocError>
         requires permitted { IsDef (record { name = line.now.name.now; class = line.now.class; kind = line.now.kind; reduce = line.now.reduce }) }
         requires fresh { Stands self.old line.now.name.now → ⊥ }
-        requires room { length self.old < 64 }
+        requires room { length self.old < MAX_MEASURES }
         ensures added { IfOk result (λ m. (m ≡ length self.old) × (self.new ≡ self.old ++ record { name = line.now.name.now; class = line.now.class; kind = line.now.kind; reduce = line.now.reduce } ∷ [])) }
         ensures refused { OnErr result (self.new ≡ self.old) }
     {

@@ -1,4 +1,8 @@
 //! Why a line of an inventory adds no measurement.
+ghost use Rattle.std.specs.Prelude.{◌≡◌};
+ghost use Rattle.pm_meas.specs.Catalogue.{meas_code};
+
+use pm_base::Code;
 
 /// Why a line adds no measurement to a catalogue, which it leaves as it was.
 #[derive(Clone, Copy, Debug, PartialEq, Eq)]
@@ -9,10 +13,26 @@ pub enum MeasError {
     M1,
     /// The kind, the reduction and n do not go together.
     M2,
-    /// A measurement of the name stands.
+    /// A measurement of the name exists.
     M3,
-    /// 64 measurements stand.
+    /// `MAX_MEASURES` exist.
     M4,
-    /// The catalogue could not grow.
+    /// Out of memory; no rule is broken.
     Memory,
+}
+
+impl MeasError {
+    /// The code by which the refusal is told.
+    pub fn code(&self) -> Code
+        ensures { result ≡ meas_code self.now }
+    {
+        match self {
+            MeasError::I1 => Code::I1,
+            MeasError::M1 => Code::M1,
+            MeasError::M2 => Code::M2,
+            MeasError::M3 => Code::M3,
+            MeasError::M4 => Code::M4,
+            MeasError::Memory => Code::MEM,
+        }
+    }
 }

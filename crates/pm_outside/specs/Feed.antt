@@ -56,9 +56,14 @@ is_failed (Ok value) = false
 is_failed (Err Failed) = true
 is_failed (Err Limit) = false
 
+-- How many bytes a feed holds that weren't taken, at the most.
+abbrev pub MOST_AHEAD : ℕ
+MOST_AHEAD = 65536
+
 -- What a call that reads through a feed keeps, whatever it answers: bytes are taken from what was left, a known end stays
--- one, and all that is taken is within the limit.
+-- one, all that is taken is within the limit, and little is read ahead.
 pub record ReadsOn (IsTold : Type 0) (old new : FeedState) (left rest : List ℕ) : Type 0 where
   pub given : IsTold → new.given + length (left_to new rest) ≡ old.given + length (left_to old left)
   pub knows_end : IsTold → KnowsEnd new rest
   pub most : new.given ≤ MOST_READ
+  pub ahead : length new.buffered ≤ MOST_AHEAD

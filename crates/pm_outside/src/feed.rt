@@ -8,7 +8,7 @@ ghost use Rattle.std.specs.Io.{ReadsAtMost};
 ghost use Rattle.pm_outside.specs.Causes.{faults_after};
 ghost use Rattle.pm_outside.specs.Outside.{Gives};
 ghost use Rattle.pm_base.specs.Lines.{HasNoLine, MOST_LINE};
-ghost use Rattle.pm_outside.specs.Feed.{FeedState, left_to, KnowsEnd, IsNextLine, MOST_READ, MeetsLimit, IsSpent, is_failed, ReadsOn};
+ghost use Rattle.pm_outside.specs.Feed.{FeedState, left_to, KnowsEnd, IsNextLine, MOST_READ, MOST_AHEAD, MeetsLimit, IsSpent, is_failed, ReadsOn};
 
 use crate::buffer::{move_to_front, read_after};
 use crate::copying::copy_front;
@@ -158,6 +158,7 @@ impl Feed {
         ensures stays { S.IsTold → left_to self.new (S.left source.new) ≡ left_to self.old (S.left source.old) }
         ensures given { self.new.given ≡ self.old.given }
         ensures none_lent { self.new.line ≡ [] }
+        ensures ahead { length self.new.buffered ≤ MOST_AHEAD }
         ensures some { OnOk result ((0 < length self.new.buffered) ⊎ (self.new.ended ≡ true)) }
         ensures knows_end { S.IsTold → KnowsEnd self.new (S.left source.new) }
         ensures limit { result ≡ Err FeedError.Limit → IsSpent self.old }
@@ -175,6 +176,7 @@ impl Feed {
     fn take_buffered(&mut self, buf: &mut [u8]) -> usize
         ensures within { self.old.given + length self.old.buffered ≤ MOST_READ }
         ensures before_end { self.old.ended ≡ true → self.old.given + length self.old.buffered < MOST_READ }
+        ensures ahead { length self.new.buffered ≤ MOST_AHEAD }
         ensures count { result ≡ min (length self.old.buffered) (length buf.old) }
         ensures moved { self.old.buffered ≡ take result buf.new ++ self.new.buffered }
         ensures given { self.new.given ≡ self.old.given + result }
@@ -189,6 +191,7 @@ impl Feed {
     // The next line, where the bytes in the buffer or the known end of the source tell it.
     #[inline(always)]
     fn buffered_line(&mut self) -> Option<Line>
+        ensures ahead { length self.new.buffered ≤ MOST_AHEAD }
         ensures line { IfSome result (λ line. (rest : List ℕ) → KnowsEnd self.old rest → IsNextLine (left_to self.old rest) line self.new.line (left_to self.new rest)) }
         ensures told { OnSome result ((self.old.ended ≡ true) ⊎ (HasNoLine self.old.buffered → ⊥)) }
         ensures open_line { IfNone result (HasNoLine self.old.buffered) }
@@ -228,6 +231,7 @@ impl Feed {
         ensures stays { S.IsTold → left_to self.new (S.left source.new) ≡ left_to self.old (S.left source.old) }
         ensures given { self.new.given ≡ self.old.given }
         ensures none_lent { self.new.line ≡ [] }
+        ensures ahead { length self.new.buffered ≤ MOST_AHEAD }
         ensures grown { OnOk result ((length self.old.buffered < length self.new.buffered) ⊎ ((self.new.ended ≡ true) × (length self.new.buffered ≡ length self.old.buffered))) }
         ensures unchanged { OnErr result (self.new ≡ self.old) }
         ensures within { OnOk result (self.old.given + length self.old.buffered < MOST_READ) }

@@ -1,8 +1,9 @@
 //! What the words of a job or a monitor ask for.
 use crate::words::{number, numbers, split};
 use pm_base::Class;
+use pm_history::Metric;
+use pm_inventory::Inventory;
 use pm_meas::Kind;
-use pm_model::{Inventory, Metric};
 use pm_slow::{Measured, Terms, Watched};
 use std::alloc::{AllocError, Global};
 

@@ -1,8 +1,8 @@
 //! The inventory of an input: its lines up to `end`, or the default inventory where `end` stands alone.
 use crate::stop::Stop;
 use pm_dn::Tree;
+use pm_inventory::{InvError, Inventory, LineError, take_line};
 use pm_meas::Catalogue;
-use pm_model::{InvError, Inventory, Stop as Refusal, take_line};
 use std::alloc::Global;
 
 /// An inventory in the making.
@@ -27,8 +27,8 @@ impl Reading {
         self.lines = number;
         match take_line(&mut self.tree, &mut self.catalogue, line) {
             Ok(()) => Ok(()),
-            Err(Refusal::Refused(_)) => Err(Stop::Line(number)),
-            Err(Refusal::Memory) => Err(Stop::Memory),
+            Err(LineError::Refused(_)) => Err(Stop::Line(number)),
+            Err(LineError::Memory) => Err(Stop::Memory),
         }
     }
 

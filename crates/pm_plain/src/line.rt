@@ -2,7 +2,8 @@
 use crate::asking::{granularity, measured, nothing, parts, unlocked, watched};
 use crate::words::{number, numbers, split};
 use pm_base::{Blob, Text, is_job_id, read_moment};
-use pm_model::{Entry, Inventory, Side};
+use pm_history::{Entry, Side};
+use pm_inventory::Inventory;
 use pm_slow::{Meaning, Terms};
 use std::alloc::{AllocError, Global};
 

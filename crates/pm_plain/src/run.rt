@@ -3,7 +3,8 @@ use crate::asking::nothing;
 use crate::inventory::Reading;
 use crate::line::{Said, read_line};
 use crate::stop::Stop;
-use pm_model::{Entry, Inventory};
+use pm_history::Entry;
+use pm_inventory::Inventory;
 use pm_slow::{Book, notices, print_notices};
 use std::alloc::{AllocError, Global};
 

@@ -3,16 +3,16 @@ use Rattle.std.proofs.Common.{◌≡◌, ℕ, ◌+◌, ◌-◌, ◌*◌, ◌≤�
 use Rattle.std.proofs.lemmas.Bool.{cond-false}
 use Rattle.std.specs.List.{flat_map}
 use Rattle.pm_base.specs.Moment.{tick_of}
-use Rattle.pm_model.specs.declared.entry.Side.{Side}
-use Rattle.pm_model.specs.declared.entry.Side.TheVariants.{Job, Monitor}
-use Rattle.pm_model.specs.Entry.{moment_of}
-use Rattle.pm_model.specs.History.{History, Start, ◌▷◌, last_moment, before}
-use Rattle.pm_model.specs.Terms.{Terms}
-use Rattle.pm_model.specs.Ticks.{behind}
-use Rattle.pm_model.specs.Standing.{standing_after, ids_after}
-use Rattle.pm_model.specs.Files.{file_of, files_at, files_of}
-use Rattle.pm_model.specs.Notices.{crossings_of, notices_at, notices_of, FileReady, Crossing}
-use Rattle.pm_model.proofs.TickLemmas.{behind-add, behind-none}
+use Rattle.pm_history.specs.declared.entry.Side.{Side}
+use Rattle.pm_history.specs.declared.entry.Side.TheVariants.{Job, Monitor}
+use Rattle.pm_history.specs.Entry.{moment_of}
+use Rattle.pm_history.specs.History.{History, Start, ◌▷◌, last_moment, before}
+use Rattle.pm_history.specs.Terms.{Terms}
+use Rattle.pm_history.specs.Ticks.{behind}
+use Rattle.pm_history.specs.Standing.{standing_after, ids_after}
+use Rattle.pm_history.specs.Files.{file_of, files_at, files_of}
+use Rattle.pm_history.specs.Notices.{crossings_of, notices_at, notices_of, FileReady, Crossing}
+use Rattle.pm_history.proofs.TickLemmas.{behind-add, behind-none}
 use Rattle.pm_slow.specs.First.{IsFrom}
 
 pub IsFrom-le : (m n : ℕ) (h : History) → m ≤ n → IsFrom n h → IsFrom m h

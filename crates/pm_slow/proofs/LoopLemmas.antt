@@ -1,11 +1,11 @@
 -- One step more of a loop.
 use Rattle.std.proofs.Common.{◌≡◌, ℕ, suc, ◌+◌, ◌*◌, ◌<◌, ◌≤◌, Bool, true, false, ◌&&◌, ◌||◌, cond, List, [], ◌∷◌, ◌++◌, refl, ap, ◌∙◌, arith, add-one, suc-mul, mul-le-mul_right}
-use Rattle.pm_model.specs.declared.entry.Side.{Side}
-use Rattle.pm_model.specs.History.{History}
-use Rattle.pm_model.specs.Terms.{Terms}
-use Rattle.pm_model.specs.Ticks.{at_some, at_each, behind}
-use Rattle.pm_model.specs.Standing.{Making}
-use Rattle.pm_model.specs.Files.{part_of, parts_of}
+use Rattle.pm_history.specs.declared.entry.Side.{Side}
+use Rattle.pm_history.specs.History.{History}
+use Rattle.pm_history.specs.Terms.{Terms}
+use Rattle.pm_history.specs.Ticks.{at_some, at_each, behind}
+use Rattle.pm_history.specs.Standing.{Making}
+use Rattle.pm_history.specs.Files.{part_of, parts_of}
 
 pub at_some-more : (n : ℕ) (p : ℕ → Bool) → at_some (n + 1) p ≡ (at_some n p || p n)
 at_some-more n p = rw add-one refl

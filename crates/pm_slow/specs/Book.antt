@@ -1,9 +1,9 @@
 -- What bodies ask for, by a table.
 use Rattle.std.specs.Prelude.{ℕ, Bool, true, false, ◌&&◌, List, [], ◌∷◌, if◌then◌else◌}
 use Rattle.std.specs.Str.{bytes_eq}
-use Rattle.pm_model.specs.declared.entry.Side.{Side}
-use Rattle.pm_model.specs.declared.entry.Side.TheVariants.{Job, Monitor}
-use Rattle.pm_model.specs.Terms.{Terms}
+use Rattle.pm_history.specs.declared.entry.Side.{Side}
+use Rattle.pm_history.specs.declared.entry.Side.TheVariants.{Job, Monitor}
+use Rattle.pm_history.specs.Terms.{Terms}
 
 pub record MeaningState : Type 0 where
   pub side : Side

@@ -1,5 +1,5 @@
 -- A notice, as the definitions see it.
-use Rattle.pm_model.specs.Notices as model
+use Rattle.pm_history.specs.Notices as model
 use Rattle.pm_slow.specs.declared.notice.Notice.{Notice}
 use Rattle.pm_slow.specs.declared.notice.Notice.TheVariants.{File, Cross}
 

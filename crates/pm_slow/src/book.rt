@@ -4,7 +4,7 @@ ghost use Rattle.pm_slow.specs.Book.{is_meaning_of, terms_among, terms_in};
 
 use crate::terms::Terms;
 use pm_base::Blob;
-use pm_model::Side;
+use pm_history::Side;
 use std::marker::Model;
 
 /// What one body of a job, or of a monitor, asks for.

@@ -2,11 +2,11 @@
 ghost use Rattle.std.specs.Prelude.{◌≡◌, ◌*◌, ◌+◌, ◌<◌, ◌^◌, ◌&&◌, ◌||◌, ◌==◌};
 ghost use Rattle.std.specs.Option.{is_some};
 ghost use Rattle.pm_base.specs.Moment.{tick_of};
-ghost use Rattle.pm_model.specs.Entry.{moment_of, change_of};
-ghost use Rattle.pm_model.specs.History.{history_of};
-ghost use Rattle.pm_model.specs.Standing.{stands};
-ghost use Rattle.pm_model.specs.Counted.{is_touched, ran, is_counted, some_counted, all_counted};
-ghost use Rattle.pm_model.specs.Value.{is_suspect};
+ghost use Rattle.pm_history.specs.Entry.{moment_of, change_of};
+ghost use Rattle.pm_history.specs.History.{history_of};
+ghost use Rattle.pm_history.specs.Standing.{stands};
+ghost use Rattle.pm_history.specs.Counted.{is_touched, ran, is_counted, some_counted, all_counted};
+ghost use Rattle.pm_history.specs.Value.{is_suspect};
 ghost use Rattle.pm_slow.specs.Book.{terms_in};
 
 use crate::book::Book;
@@ -15,7 +15,7 @@ use crate::logic::{and, or};
 use crate::making::Making;
 use crate::standing::{Standing, is_under, runs, standing_after, standing_next, stands};
 use pm_base::tick;
-use pm_model::Entry;
+use pm_history::Entry;
 
 // Whether the entry lies in the tick, and is on what was made there; `old` and `new` stand before and after it.
 fn is_touch(

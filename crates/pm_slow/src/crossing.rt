@@ -1,6 +1,6 @@
 //! Where a sequence of values crosses a threshold.
 ghost use Rattle.std.specs.Prelude.{◌≡◌, ◌≤◌, ◌<◌, ◌&&◌, ◌||◌, not, nat_le, nat_lt, length, slice_index};
-ghost use Rattle.pm_model.specs.Crossed.{rearms, is_rearmed_between, is_rearmed_before, stays_over, is_raised_before, crosses_up, crosses_down, crossing_in};
+ghost use Rattle.pm_history.specs.Crossed.{rearms, is_rearmed_between, is_rearmed_before, stays_over, is_raised_before, crosses_up, crosses_down, crossing_in};
 
 use crate::logic::{and, or};
 

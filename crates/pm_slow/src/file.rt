@@ -2,11 +2,11 @@
 ghost use Rattle.std.specs.Prelude.{◌≡◌, ◌+◌, ◌*◌, ◌<◌, ◌≤◌, ◌^◌, ◌++◌, map, length, Some, IfOk, OnOk, option_to_list};
 ghost use Rattle.std.specs.List.{flat_map};
 ghost use Rattle.pm_base.specs.Moment.{tick_of};
-ghost use Rattle.pm_model.specs.declared.metric.Metric.{Metric};
-ghost use Rattle.pm_model.specs.History.{history_of, last_moment};
-ghost use Rattle.pm_model.specs.Terms.{reporting};
-ghost use Rattle.pm_model.specs.Value.{measured_value};
-ghost use Rattle.pm_model.specs.Files.{row_of, group_of, part_of, parts_of, report_of, is_due, file_of, file_at, files_at, files_of};
+ghost use Rattle.pm_history.specs.declared.metric.Metric.{Metric};
+ghost use Rattle.pm_history.specs.History.{history_of, last_moment};
+ghost use Rattle.pm_history.specs.Terms.{reporting};
+ghost use Rattle.pm_history.specs.Value.{measured_value};
+ghost use Rattle.pm_history.specs.Files.{row_of, group_of, part_of, parts_of, report_of, is_due, file_of, file_at, files_at, files_of};
 ghost use Rattle.pm_slow.specs.Book.{terms_in};
 ghost use Rattle.pm_slow.specs.First.{IsFrom};
 
@@ -21,7 +21,7 @@ use crate::standing::{Standing, standing_after};
 use crate::terms::{Measured, Terms};
 use crate::value::measured_value;
 use pm_base::{Text, tick};
-use pm_model::{Entry, Metric, Side};
+use pm_history::{Entry, Metric, Side};
 use std::alloc::{AllocError, Global};
 
 fn push_results(

@@ -1,11 +1,11 @@
 //! Moments, and what a Boot cuts.
 ghost use Rattle.std.specs.Prelude.{◌≡◌, ℕ, ◌*◌, ◌<◌, ◌^◌, if◌then◌else◌, length};
 ghost use Rattle.pm_base.specs.Moment.{tick_of};
-ghost use Rattle.pm_model.specs.History.{History, history_of, last_moment, before, is_over, first_cut, cuts, is_cut};
+ghost use Rattle.pm_history.specs.History.{History, history_of, last_moment, before, is_over, first_cut, cuts, is_cut};
 
 use crate::logic::or;
 use pm_base::tick;
-use pm_model::Entry;
+use pm_history::Entry;
 
 /// The moment of the last entry, and 0 of none.
 pub fn last_moment(history: &[Entry]) -> u64

@@ -1,12 +1,12 @@
 //! The ids under which jobs and monitors stand, in byte order.
 ghost use Rattle.std.specs.Prelude.{◌≡◌, ◌++◌, ◌∷◌, [], OnOk, IfOk};
 ghost use Rattle.std.specs.Str.{bytes_eq};
-ghost use Rattle.pm_model.specs.History.{history_of};
-ghost use Rattle.pm_model.specs.Standing.{with_id, without_id, ids_next, ids_after};
+ghost use Rattle.pm_history.specs.History.{history_of};
+ghost use Rattle.pm_history.specs.Standing.{with_id, without_id, ids_next, ids_after};
 
 use crate::copy::copy;
 use pm_base::Text;
-use pm_model::{Entry, Side};
+use pm_history::{Entry, Side};
 use std::alloc::{AllocError, Global};
 use std::cmp::Ordering;
 

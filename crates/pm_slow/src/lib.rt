@@ -1,4 +1,4 @@
-//! The definitions of pm_model, computed slowly over a list of entries. For tests alone: no part of the product stands on it.
+//! The definitions of pm_history, computed slowly over a list of entries. For tests alone: no part of the product stands on it.
 #![tactic(auto)]
 
 mod book;

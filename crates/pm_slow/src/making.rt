@@ -3,7 +3,7 @@ ghost use Rattle.std.specs.Prelude.{◌≡◌, IfOk};
 
 use crate::copy::copy;
 use pm_base::Text;
-use pm_model::Side;
+use pm_history::Side;
 use std::alloc::{AllocError, Global};
 use std::marker::Model;
 
@@ -16,7 +16,7 @@ pub struct Making<'a> {
 }
 
 impl<'a> Model for Making<'a> {
-    ghost use Rattle.pm_model.specs.Standing.{Making};
+    ghost use Rattle.pm_history.specs.Standing.{Making};
 
     ghost Value = { Making };
 

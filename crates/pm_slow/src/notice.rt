@@ -1,7 +1,7 @@
 //! The notices of a history.
 ghost use Rattle.std.specs.Prelude.{◌≡◌, ◌+◌, ◌*◌, ◌<◌, ◌^◌, ◌++◌, map, length, IfOk, OnOk};
-ghost use Rattle.pm_model.specs.History.{history_of};
-ghost use Rattle.pm_model.specs.Notices.{FileReady, Crossing, notices_at, notices_of};
+ghost use Rattle.pm_history.specs.History.{history_of};
+ghost use Rattle.pm_history.specs.Notices.{FileReady, Crossing, notices_at, notices_of};
 ghost use Rattle.pm_slow.specs.Book.{terms_in};
 ghost use Rattle.pm_slow.specs.Seen.{notice_seen};
 
@@ -11,7 +11,7 @@ use crate::history::last_moment;
 use crate::report::Report;
 use crate::watching::{Crossed, crossings_at};
 use pm_base::tick;
-use pm_model::Entry;
+use pm_history::Entry;
 use std::alloc::{AllocError, Global};
 
 /// A file that became ready, or a crossing.

@@ -13,7 +13,7 @@ pub struct Row {
 }
 
 impl Model for Row {
-    ghost use Rattle.pm_model.specs.Files.{Row};
+    ghost use Rattle.pm_history.specs.Files.{Row};
 
     ghost Value = { Row };
 
@@ -29,7 +29,7 @@ pub struct Group {
 }
 
 impl Model for Group {
-    ghost use Rattle.pm_model.specs.Files.{Group};
+    ghost use Rattle.pm_history.specs.Files.{Group};
 
     ghost Value = { Group };
 
@@ -45,7 +45,7 @@ pub struct Part {
 }
 
 impl Model for Part {
-    ghost use Rattle.pm_model.specs.Files.{Part};
+    ghost use Rattle.pm_history.specs.Files.{Part};
 
     ghost Value = { Part };
 
@@ -62,7 +62,7 @@ pub struct Report {
 }
 
 impl Model for Report {
-    ghost use Rattle.pm_model.specs.Files.{Report};
+    ghost use Rattle.pm_history.specs.Files.{Report};
 
     ghost Value = { Report };
 

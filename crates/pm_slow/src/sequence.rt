@@ -1,7 +1,7 @@
 //! The values of monitors, period by period.
 ghost use Rattle.std.specs.Prelude.{◌≡◌, ◌*◌, ◌<◌, ◌^◌, ◌++◌, length, IfOk, OnOk, option_to_list};
-ghost use Rattle.pm_model.specs.History.{history_of};
-ghost use Rattle.pm_model.specs.Notices.{value_at, value_sequence};
+ghost use Rattle.pm_history.specs.History.{history_of};
+ghost use Rattle.pm_history.specs.Notices.{value_at, value_sequence};
 ghost use Rattle.pm_slow.specs.Book.{terms_in};
 
 use crate::book::Book;
@@ -9,7 +9,7 @@ use crate::counted::is_suspect;
 use crate::making::Making;
 use crate::value::measured_value;
 use pm_base::tick;
-use pm_model::{Entry, Metric};
+use pm_history::{Entry, Metric};
 use std::alloc::{AllocError, Global};
 
 /// The value of the granularity period that ends with a tick, unless it is null or suspect.

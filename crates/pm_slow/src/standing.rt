@@ -2,15 +2,15 @@
 ghost use Rattle.std.specs.Prelude.{◌≡◌, None};
 ghost use Rattle.std.specs.Option.{option_map, is_some};
 ghost use Rattle.std.specs.Str.{bytes_eq};
-ghost use Rattle.pm_model.specs.Entry.{Made, change_of};
-ghost use Rattle.pm_model.specs.History.{history_of};
-ghost use Rattle.pm_model.specs.Standing.{stands, runs, moved, changed_by, standing_next, standing_after};
+ghost use Rattle.pm_history.specs.Entry.{Made, change_of};
+ghost use Rattle.pm_history.specs.History.{history_of};
+ghost use Rattle.pm_history.specs.Standing.{stands, runs, moved, changed_by, standing_next, standing_after};
 ghost use Rattle.pm_slow.specs.Book.{terms_in};
 
 use crate::book::Book;
 use crate::making::Making;
 use pm_base::{Blob, Text};
-use pm_model::{Entry, Side};
+use pm_history::{Entry, Side};
 use std::marker::Model;
 
 /// The place of its making, its body, its state, the moment of the last entry on it, and the moment of its making or, where it was set
@@ -25,7 +25,7 @@ pub struct Standing<'a> {
 }
 
 impl<'a> Model for Standing<'a> {
-    ghost use Rattle.pm_model.specs.Standing.{Standing};
+    ghost use Rattle.pm_history.specs.Standing.{Standing};
 
     ghost Value = { Standing };
 

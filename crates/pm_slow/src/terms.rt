@@ -1,9 +1,9 @@
 //! What a job or a monitor asks for, in numbers of an inventory and in ticks.
 ghost use Rattle.std.specs.Prelude.{◌≡◌, ◌<◌, ◌^◌};
-ghost use Rattle.pm_model.specs.Terms.{reporting};
+ghost use Rattle.pm_history.specs.Terms.{reporting};
 
 use pm_base::Class;
-use pm_model::Metric;
+use pm_history::Metric;
 use std::marker::Model;
 
 /// What a job measures on the objects of one class: metrics in catalogue order, objects in tree order.
@@ -15,7 +15,7 @@ pub struct Measured {
 }
 
 impl Model for Measured {
-    ghost use Rattle.pm_model.specs.Terms.{Measured};
+    ghost use Rattle.pm_history.specs.Terms.{Measured};
 
     ghost Value = { Measured };
 
@@ -61,7 +61,7 @@ pub struct Watched {
 }
 
 impl Model for Watched {
-    ghost use Rattle.pm_model.specs.Terms.{Watched};
+    ghost use Rattle.pm_history.specs.Terms.{Watched};
 
     ghost Value = { Watched };
 
@@ -103,7 +103,7 @@ pub struct Terms {
 }
 
 impl Model for Terms {
-    ghost use Rattle.pm_model.specs.Terms.{Terms};
+    ghost use Rattle.pm_history.specs.Terms.{Terms};
 
     ghost Value = { Terms };
 

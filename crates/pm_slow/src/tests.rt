@@ -6,7 +6,7 @@ ghost use Rattle.std.specs.Prelude.{◌≡◌};
 use super::*;
 use pm_base::{Blob, Class, Text};
 use pm_meas::Reduce;
-use pm_model::{Entry, Metric, Side};
+use pm_history::{Entry, Metric, Side};
 use std::alloc::{AllocError, Global};
 use std::test::Fail;
 

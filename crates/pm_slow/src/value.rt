@@ -1,11 +1,11 @@
 //! Counted events, and values.
 ghost use Rattle.std.specs.Prelude.{◌≡◌, ◌+◌, ◌*◌, ◌<◌, ◌≤◌, ◌^◌, ◌&&◌, ◌++◌, ℕ, Bool, length, IfOk, OnOk, option_to_list};
 ghost use Rattle.pm_base.specs.Moment.{tick_of};
-ghost use Rattle.pm_model.specs.Entry.{moment_of};
-ghost use Rattle.pm_model.specs.History.{history_of};
-ghost use Rattle.pm_model.specs.Ticks.{is_within};
-ghost use Rattle.pm_model.specs.Counted.{is_counted};
-ghost use Rattle.pm_model.specs.Value.{value_where, counted_values, measured_value};
+ghost use Rattle.pm_history.specs.Entry.{moment_of};
+ghost use Rattle.pm_history.specs.History.{history_of};
+ghost use Rattle.pm_history.specs.Ticks.{is_within};
+ghost use Rattle.pm_history.specs.Counted.{is_counted};
+ghost use Rattle.pm_history.specs.Value.{value_where, counted_values, measured_value};
 ghost use Rattle.pm_slow.specs.Book.{terms_in};
 
 use crate::book::Book;
@@ -13,7 +13,7 @@ use crate::counted::{is_counted, some_counted};
 use crate::making::Making;
 use pm_base::tick;
 use pm_meas::plain::value_of;
-use pm_model::{Entry, Metric};
+use pm_history::{Entry, Metric};
 use std::alloc::{AllocError, Global};
 
 // The value of a registered event of the object and the metric, where its tick passes.

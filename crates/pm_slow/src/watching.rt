@@ -1,9 +1,9 @@
 //! The crossings of monitors, period by period.
 ghost use Rattle.std.specs.Prelude.{◌≡◌, ◌-◌, ◌*◌, ◌<◌, ◌^◌, ◌++◌, length, Some, IfOk, OnOk, option_to_list};
 ghost use Rattle.std.specs.List.{flat_map};
-ghost use Rattle.pm_model.specs.History.{history_of};
-ghost use Rattle.pm_model.specs.Crossed.{crossing_in};
-ghost use Rattle.pm_model.specs.Notices.{crossed, crossed_last, crossing_at, crossings_by, crossings_of, crossings_under, crossings_at};
+ghost use Rattle.pm_history.specs.History.{history_of};
+ghost use Rattle.pm_history.specs.Crossed.{crossing_in};
+ghost use Rattle.pm_history.specs.Notices.{crossed, crossed_last, crossing_at, crossings_by, crossings_of, crossings_under, crossings_at};
 ghost use Rattle.pm_slow.specs.Book.{terms_in};
 
 use crate::book::Book;
@@ -15,7 +15,7 @@ use crate::sequence::{value_at, value_sequence};
 use crate::standing::{Standing, standing_after};
 use crate::terms::Watched;
 use pm_base::Text;
-use pm_model::{Entry, Side};
+use pm_history::{Entry, Side};
 use std::alloc::{AllocError, Global};
 use std::marker::Model;
 
@@ -38,7 +38,7 @@ pub struct Crossed {
 }
 
 impl Model for Crossed {
-    ghost use Rattle.pm_model.specs.Notices.{Crossed};
+    ghost use Rattle.pm_history.specs.Notices.{Crossed};
 
     ghost Value = { Crossed };
 

@@ -1,6 +1,6 @@
 -- What one more value does to what a sequence leaves, over the places of a sequence.
 use Rattle.std.proofs.Common.{◌≡◌, ◌⊎◌, inl, inr, ℕ, zero, suc, ◌+◌, ◌<◌, ◌≤◌, List, length, slice_index, ap, arith}
-use Rattle.pm_model.specs.Crossing.{IsRearmedBefore, IsRaisedBefore, NeverBoth, FlagsOfSequences}
+use Rattle.pm_history.specs.Crossing.{IsRearmedBefore, IsRaisedBefore, NeverBoth, FlagsOfSequences}
 
 -- what rearms between a high value and a place is low, and so the high value doesn't count for a downward crossing
 never_rearmed_and_raised : (high low : ℕ) (xs : List ℕ) (n : ℕ) → IsRearmedBefore high low xs n → IsRaisedBefore high low xs n → ⊥

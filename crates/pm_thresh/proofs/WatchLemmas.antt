@@ -2,7 +2,7 @@
 use Rattle.std.proofs.Common.{◌≡◌, ◌⊎◌, inl, inr, ◌↔◌, ℕ, ◌+◌, ◌<◌, ◌≤◌, Bool, true, false, ◌&&◌, ◌||◌, nat_le, nat_lt, IsTrue, List, [], ◌∷◌, ◌++◌, length, slice_index, length-append, Option, Some, None, if◌then◌else◌, refl, sym, subst, arith, ltb-true, leb-true, lt-ltb, le-leb}
 use Rattle.std.proofs.Math.ListN.{get_or-append}
 use Rattle.std.proofs.Math.Seq.{get_or-append_seam}
-use Rattle.pm_model.specs.Crossing.{IsRearmedBefore, IsRaisedBefore, CrossesUp, CrossesDown}
+use Rattle.pm_history.specs.Crossing.{IsRearmedBefore, IsRaisedBefore, CrossesUp, CrossesDown}
 use Rattle.pm_thresh.specs.declared.watch.Watch.{Watch}
 use Rattle.pm_thresh.specs.declared.direction.Direction.{Direction}
 use Rattle.pm_thresh.specs.declared.direction.Direction.TheVariants.{Up, Down}

@@ -1,6 +1,6 @@
 -- A watch and the sequence of values that it has seen.
 use Rattle.std.specs.Prelude.{◌≡◌, ◌↔◌, ℕ, Bool, ◌&&◌, ◌||◌, IsTrue, nat_le, nat_lt, List, length, ◌<◌, slice_index_or, Option, Some, None, if◌then◌else◌}
-use Rattle.pm_model.specs.Crossing.{IsRearmedBefore, IsRaisedBefore, CrossesUp, CrossesDown}
+use Rattle.pm_history.specs.Crossing.{IsRearmedBefore, IsRaisedBefore, CrossesUp, CrossesDown}
 use Rattle.pm_thresh.specs.declared.watch.Watch.{Watch}
 use Rattle.pm_thresh.specs.declared.direction.Direction.{Direction}
 use Rattle.pm_thresh.specs.declared.direction.Direction.TheVariants.{Up, Down}

@@ -1,5 +1,5 @@
 //! What holds of crossings on every sequence.
-ghost use Rattle.pm_model.specs.Crossing.{NeverBoth, FlagsOfSequences};
+ghost use Rattle.pm_history.specs.Crossing.{NeverBoth, FlagsOfSequences};
 
 /// At no place of a sequence do an upward and a downward crossing stand together. A law: the call does nothing.
 pub fn never_both()

@@ -1,6 +1,6 @@
 //! The definitions as they stand, computed slowly over a whole list, for tests to compare with.
 ghost use Rattle.std.specs.Prelude.{◌≤◌, ◌<◌, ◌↔◌, ℕ, length, slice_index, IsTrue, IfOk};
-ghost use Rattle.pm_model.specs.Crossing.{IsRearmedBetween, IsRearmedBefore, IsRaisedBefore, CrossesUp, CrossesDown, AreFlags};
+ghost use Rattle.pm_history.specs.Crossing.{IsRearmedBetween, IsRearmedBefore, IsRaisedBefore, CrossesUp, CrossesDown, AreFlags};
 ghost use Rattle.pm_thresh.specs.Watch.{IsCrossing, AreCrossings};
 
 use crate::direction::Direction;

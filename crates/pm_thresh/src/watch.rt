@@ -4,7 +4,7 @@
 //! rearms, and whether some value over the threshold has no later one of at most `low`.
 
 ghost use Rattle.std.specs.Prelude.{◌≡◌, ◌≤◌, ◌↔◌, ◌⊎◌, ◌∷◌, ◌++◌, ℕ, List, [], length, IsTrue};
-ghost use Rattle.pm_model.specs.Crossing.{AreFlags};
+ghost use Rattle.pm_history.specs.Crossing.{AreFlags};
 ghost use Rattle.pm_thresh.specs.Watch.{StandsAfter, IsCrossing, answer_by, with_value};
 
 use crate::direction::Direction;

@@ -8,7 +8,7 @@ bytes-init g c = record {
   within = omega arith;
   room = refl;
   taken = λ told. refl;
-  reads = reads_nothing g.S.Source.IsTold c.args.feed.now (g.S.Source.left c.args.source.now) c.requires.within c.requires.knows_end;
+  reads = reads_nothing g.S.Source.IsTold c.args.feed.now (g.S.Source.left c.args.source.now) c.requires.within c.requires.ahead c.requires.knows_end;
   counted = refl;
 }
 

@@ -8,7 +8,7 @@ pieces-init g c = record {
   few = omega (arith, c.args.head.now.ok.0, ap length c.requires.empty);
   begun = λ told is. rw c.requires.empty (search arith);
   gathers = λ told. rw c.requires.empty (first_piece _);
-  reads = reads_nothing g.S.Source.IsTold c.args.feed.now (g.S.Source.left c.args.source.now) c.requires.within c.requires.knows_end;
+  reads = reads_nothing g.S.Source.IsTold c.args.feed.now (g.S.Source.left c.args.source.now) c.requires.within c.requires.ahead c.requires.knows_end;
   counted = refl;
 }
 

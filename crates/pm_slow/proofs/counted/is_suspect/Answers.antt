@@ -1,6 +1,6 @@
 use Rattle.std.proofs.Common.{◌+◌, ◌&&◌, ◌∙◌, sym}
-use Rattle.pm_model.specs.History.{history_of}
-use Rattle.pm_model.specs.Counted.{is_counted}
+use Rattle.pm_history.specs.History.{history_of}
+use Rattle.pm_history.specs.Counted.{is_counted}
 use Rattle.pm_slow.specs.Book.{terms_in}
 use Rattle.pm_slow.proofs.LoopLemmas.{at_each-more}
 use Rattle.pm_slow.proofs.counted.is_suspect.Goals as goal

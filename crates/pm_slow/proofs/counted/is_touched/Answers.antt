@@ -1,11 +1,11 @@
 use Rattle.std.proofs.Common.{◌≡◌, ◌+◌, ◌&&◌, ◌||◌, ◌==◌, ◌∙◌, ap, sym, take}
 use Rattle.std.specs.Option.{is_some}
 use Rattle.pm_base.specs.Moment.{tick_of}
-use Rattle.pm_model.specs.Entry.{moment_of, change_of}
-use Rattle.pm_model.specs.History.{history_of, ◌▷◌, size}
-use Rattle.pm_model.specs.Standing.{stands, standing_next, standing_after}
-use Rattle.pm_model.specs.Counted.{is_touched}
-use Rattle.pm_model.proofs.HistoryLemmas.{history_of-more}
+use Rattle.pm_history.specs.Entry.{moment_of, change_of}
+use Rattle.pm_history.specs.History.{history_of, ◌▷◌, size}
+use Rattle.pm_history.specs.Standing.{stands, standing_next, standing_after}
+use Rattle.pm_history.specs.Counted.{is_touched}
+use Rattle.pm_history.proofs.HistoryLemmas.{history_of-more}
 use Rattle.pm_slow.specs.Book.{terms_in}
 use Rattle.pm_slow.proofs.counted.is_touched.Goals as goal
 

@@ -1,7 +1,7 @@
 use Rattle.std.proofs.Common.{◌≡◌, take}
-use Rattle.pm_model.specs.History.{history_of, size}
-use Rattle.pm_model.specs.Standing.{standing_after}
-use Rattle.pm_model.specs.Counted.{is_touched}
+use Rattle.pm_history.specs.History.{history_of, size}
+use Rattle.pm_history.specs.Standing.{standing_after}
+use Rattle.pm_history.specs.Counted.{is_touched}
 use Rattle.pm_slow.specs.Book.{terms_in}
 use Rattle.pm_slow.proofs.counted.is_touched.Given as goal
 

@@ -1,5 +1,5 @@
 use Rattle.std.proofs.Common.{◌&&◌, ◌||◌, ltb, leb, get_or, ap, sym, ◌∙◌}
-use Rattle.pm_model.specs.Crossed.{stays_over}
+use Rattle.pm_history.specs.Crossed.{stays_over}
 use Rattle.pm_slow.proofs.LoopLemmas.{at_some-more}
 use Rattle.pm_slow.proofs.crossing.is_raised_before.Goals as goal
 

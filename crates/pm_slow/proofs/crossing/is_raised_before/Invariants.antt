@@ -1,6 +1,6 @@
 use Rattle.std.proofs.Common.{◌≡◌, ◌&&◌, ltb, leb, get_or}
-use Rattle.pm_model.specs.Ticks.{at_some}
-use Rattle.pm_model.specs.Crossed.{stays_over}
+use Rattle.pm_history.specs.Ticks.{at_some}
+use Rattle.pm_history.specs.Crossed.{stays_over}
 use Rattle.pm_slow.proofs.crossing.is_raised_before.Given as goal
 
 abbrev pub invariant-loop-j : goal.invariant-loop-j

@@ -1,5 +1,5 @@
 use Rattle.std.proofs.Common.{◌&&◌, ◌||◌, not, leb, get_or, ap, sym, ◌∙◌}
-use Rattle.pm_model.specs.Crossed.{is_rearmed_between}
+use Rattle.pm_history.specs.Crossed.{is_rearmed_between}
 use Rattle.pm_slow.proofs.LoopLemmas.{at_each-more}
 use Rattle.pm_slow.proofs.crossing.is_rearmed_before.Goals as goal
 

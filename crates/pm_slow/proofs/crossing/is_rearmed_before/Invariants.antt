@@ -1,6 +1,6 @@
 use Rattle.std.proofs.Common.{◌≡◌, ◌||◌, not, leb, get_or}
-use Rattle.pm_model.specs.Ticks.{at_each}
-use Rattle.pm_model.specs.Crossed.{is_rearmed_between}
+use Rattle.pm_history.specs.Ticks.{at_each}
+use Rattle.pm_history.specs.Crossed.{is_rearmed_between}
 use Rattle.pm_slow.proofs.crossing.is_rearmed_before.Given as goal
 
 abbrev pub invariant-loop-j : goal.invariant-loop-j

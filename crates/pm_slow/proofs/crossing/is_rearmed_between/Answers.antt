@@ -1,5 +1,5 @@
 use Rattle.std.proofs.Common.{◌&&◌, ◌||◌, ltb, get_or, ap, sym, ◌∙◌}
-use Rattle.pm_model.specs.Crossed.{rearms}
+use Rattle.pm_history.specs.Crossed.{rearms}
 use Rattle.pm_slow.proofs.LoopLemmas.{at_some-more}
 use Rattle.pm_slow.proofs.crossing.is_rearmed_between.Goals as goal
 

@@ -1,6 +1,6 @@
 use Rattle.std.proofs.Common.{◌≡◌, ◌&&◌, ltb, get_or}
-use Rattle.pm_model.specs.Ticks.{at_some}
-use Rattle.pm_model.specs.Crossed.{rearms}
+use Rattle.pm_history.specs.Ticks.{at_some}
+use Rattle.pm_history.specs.Crossed.{rearms}
 use Rattle.pm_slow.proofs.crossing.is_rearmed_between.Given as goal
 
 abbrev pub invariant-loop-k : goal.invariant-loop-k

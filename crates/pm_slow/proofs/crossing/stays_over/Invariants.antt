@@ -1,5 +1,5 @@
 use Rattle.std.proofs.Common.{◌≡◌, ◌||◌, not, ltb, get_or}
-use Rattle.pm_model.specs.Ticks.{at_each}
+use Rattle.pm_history.specs.Ticks.{at_each}
 use Rattle.pm_slow.proofs.crossing.stays_over.Given as goal
 
 abbrev pub invariant-loop-k : goal.invariant-loop-k

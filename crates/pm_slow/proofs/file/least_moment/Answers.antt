@@ -1,7 +1,7 @@
 use Rattle.std.proofs.Common.{◌≤◌, sym, arith, take, subst}
-use Rattle.pm_model.specs.Entry.{moment_of}
-use Rattle.pm_model.specs.History.{history_of}
-use Rattle.pm_model.proofs.HistoryLemmas.{history_of-more}
+use Rattle.pm_history.specs.Entry.{moment_of}
+use Rattle.pm_history.specs.History.{history_of}
+use Rattle.pm_history.proofs.HistoryLemmas.{history_of-more}
 use Rattle.pm_slow.specs.First.{IsFrom}
 use Rattle.pm_slow.proofs.FirstLemmas.{IsFrom-le}
 use Rattle.pm_slow.proofs.file.least_moment.Goals as goal

@@ -1,6 +1,6 @@
 use Rattle.std.proofs.Common.{◌≡◌, ◌<◌, ◌++◌, ◌∷◌, [], ◌∙◌, ap, sym, arith}
-use Rattle.pm_model.specs.History.{history_of}
-use Rattle.pm_model.specs.Files.{part_of, parts_of}
+use Rattle.pm_history.specs.History.{history_of}
+use Rattle.pm_history.specs.Files.{part_of, parts_of}
 use Rattle.pm_slow.specs.Book.{terms_in}
 use Rattle.pm_slow.proofs.LoopLemmas.{part-within, parts_of-more, next-product}
 use Rattle.pm_slow.proofs.file.parts_of.Goals as goal

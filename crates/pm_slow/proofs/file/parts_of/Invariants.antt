@@ -1,6 +1,6 @@
 use Rattle.std.proofs.Common.{◌≡◌, ◌+◌, ◌*◌}
-use Rattle.pm_model.specs.History.{history_of}
-use Rattle.pm_model.specs.Files.{parts_of}
+use Rattle.pm_history.specs.History.{history_of}
+use Rattle.pm_history.specs.Files.{parts_of}
 use Rattle.pm_slow.specs.Book.{terms_in}
 use Rattle.pm_slow.proofs.file.parts_of.Given as goal
 

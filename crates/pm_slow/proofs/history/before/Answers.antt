@@ -1,7 +1,7 @@
 use Rattle.std.proofs.Common.{◌≡◌, ◌≤◌, ◌+◌, ◌∙◌, ap, sym, take, cond, ltb, arith, ℕ, subst}
-use Rattle.pm_model.specs.Entry.{moment_of}
-use Rattle.pm_model.specs.History.{history_of, before}
-use Rattle.pm_model.proofs.HistoryLemmas.{history_of-more}
+use Rattle.pm_history.specs.Entry.{moment_of}
+use Rattle.pm_history.specs.History.{history_of, before}
+use Rattle.pm_history.proofs.HistoryLemmas.{history_of-more}
 use Rattle.pm_slow.proofs.LoopLemmas.{cond_at, cond-le}
 use Rattle.pm_slow.proofs.history.before.Goals as goal
 

@@ -1,5 +1,5 @@
 use Rattle.std.proofs.Common.{◌≡◌, ◌≤◌, take}
-use Rattle.pm_model.specs.History.{history_of, before}
+use Rattle.pm_history.specs.History.{history_of, before}
 use Rattle.pm_slow.proofs.history.before.Given as goal
 
 abbrev pub invariant-loop-place : goal.invariant-loop-place

@@ -1,7 +1,7 @@
 use Rattle.std.proofs.Common.{◌∙◌, ◌||◌, ap, sym, take}
 use Rattle.pm_base.specs.Moment.{tick_of}
-use Rattle.pm_model.specs.History.{history_of, first_cut, is_cut}
-use Rattle.pm_model.proofs.HistoryLemmas.{history_of-more}
+use Rattle.pm_history.specs.History.{history_of, first_cut, is_cut}
+use Rattle.pm_history.proofs.HistoryLemmas.{history_of-more}
 use Rattle.pm_slow.proofs.history.is_cut.Goals as goal
 
 pub loop-entry-preserved : goal.loop-entry-preserved

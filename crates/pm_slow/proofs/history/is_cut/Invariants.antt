@@ -1,6 +1,6 @@
 use Rattle.std.proofs.Common.{◌≡◌, ℕ, take, cond}
 use Rattle.pm_base.specs.Moment.{tick_of}
-use Rattle.pm_model.specs.History.{history_of, first_cut, is_cut}
+use Rattle.pm_history.specs.History.{history_of, first_cut, is_cut}
 use Rattle.pm_slow.proofs.history.is_cut.Given as goal
 
 abbrev pub invariant-loop-entry : goal.invariant-loop-entry

@@ -1,6 +1,6 @@
 use Rattle.std.proofs.Common.{◌∙◌, ap, sym}
-use Rattle.pm_model.specs.History.{last_moment}
-use Rattle.pm_model.proofs.HistoryLemmas.{history_of-more}
+use Rattle.pm_history.specs.History.{last_moment}
+use Rattle.pm_history.proofs.HistoryLemmas.{history_of-more}
 use Rattle.pm_slow.proofs.history.last_moment.Goals as goal
 
 pub loop-entry-preserved : goal.loop-entry-preserved

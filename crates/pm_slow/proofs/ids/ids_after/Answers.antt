@@ -1,6 +1,6 @@
 use Rattle.std.proofs.Common.{◌∙◌, ap, sym}
-use Rattle.pm_model.specs.Standing.{ids_next, ids_after}
-use Rattle.pm_model.proofs.HistoryLemmas.{history_of-more}
+use Rattle.pm_history.specs.Standing.{ids_next, ids_after}
+use Rattle.pm_history.proofs.HistoryLemmas.{history_of-more}
 use Rattle.pm_slow.proofs.ids.ids_after.Goals as goal
 
 pub loop-entry-preserved : goal.loop-entry-preserved

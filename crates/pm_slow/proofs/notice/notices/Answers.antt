@@ -1,8 +1,8 @@
 use Rattle.std.proofs.Common.{◌≡◌, ◌-◌, ◌∙◌, ap, sym, arith}
 use Rattle.pm_base.specs.Moment.{tick_of}
-use Rattle.pm_model.specs.History.{history_of, last_moment}
-use Rattle.pm_model.specs.Ticks.{behind}
-use Rattle.pm_model.specs.Notices.{notices_at}
+use Rattle.pm_history.specs.History.{history_of, last_moment}
+use Rattle.pm_history.specs.Ticks.{behind}
+use Rattle.pm_history.specs.Notices.{notices_at}
 use Rattle.pm_slow.specs.Book.{terms_in}
 use Rattle.pm_slow.proofs.FirstLemmas.{notices_of-from}
 use Rattle.pm_slow.proofs.notice.notices.Goals as goal

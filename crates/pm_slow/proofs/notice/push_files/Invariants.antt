@@ -1,5 +1,5 @@
 use Rattle.std.proofs.Common.{◌≡◌, ◌++◌, map}
-use Rattle.pm_model.specs.Notices.{FileReady}
+use Rattle.pm_history.specs.Notices.{FileReady}
 use Rattle.pm_slow.specs.Seen.{notice_seen}
 use Rattle.pm_slow.proofs.notice.push_files.Given as goal
 

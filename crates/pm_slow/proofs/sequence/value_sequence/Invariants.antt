@@ -1,7 +1,7 @@
 use Rattle.std.proofs.Common.{◌≡◌}
-use Rattle.pm_model.specs.History.{history_of}
-use Rattle.pm_model.specs.Ticks.{behind}
-use Rattle.pm_model.specs.Notices.{value_at}
+use Rattle.pm_history.specs.History.{history_of}
+use Rattle.pm_history.specs.Ticks.{behind}
+use Rattle.pm_history.specs.Notices.{value_at}
 use Rattle.pm_slow.specs.Book.{terms_in}
 use Rattle.pm_slow.proofs.sequence.value_sequence.Given as goal
 

@@ -1,7 +1,7 @@
 use Rattle.std.proofs.Common.{◌+◌, ◌∙◌, ap, sym}
-use Rattle.pm_model.specs.History.{size}
-use Rattle.pm_model.specs.Standing.{standing_next, standing_after}
-use Rattle.pm_model.proofs.HistoryLemmas.{history_of-more}
+use Rattle.pm_history.specs.History.{size}
+use Rattle.pm_history.specs.Standing.{standing_next, standing_after}
+use Rattle.pm_history.proofs.HistoryLemmas.{history_of-more}
 use Rattle.pm_slow.specs.Book.{terms_in}
 use Rattle.pm_slow.proofs.standing.standing_after.Goals as goal
 

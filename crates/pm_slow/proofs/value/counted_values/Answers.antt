@@ -1,10 +1,10 @@
 use Rattle.std.proofs.Common.{◌≤◌, ◌&&◌, ◌++◌, ◌∙◌, ap, sym, arith, length, ℕ, Bool, length-append, Option, Some, None}
 use Rattle.std.specs.Option.{option_to_list}
-use Rattle.pm_model.specs.History.{history_of}
-use Rattle.pm_model.specs.Ticks.{is_within}
-use Rattle.pm_model.specs.Counted.{is_counted}
-use Rattle.pm_model.specs.Value.{values_where}
-use Rattle.pm_model.proofs.HistoryLemmas.{history_of-more}
+use Rattle.pm_history.specs.History.{history_of}
+use Rattle.pm_history.specs.Ticks.{is_within}
+use Rattle.pm_history.specs.Counted.{is_counted}
+use Rattle.pm_history.specs.Value.{values_where}
+use Rattle.pm_history.proofs.HistoryLemmas.{history_of-more}
 use Rattle.pm_slow.specs.Book.{terms_in}
 use Rattle.pm_slow.proofs.value.counted_values.Goals as goal
 

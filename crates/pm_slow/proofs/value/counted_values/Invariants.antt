@@ -1,8 +1,8 @@
 use Rattle.std.proofs.Common.{◌≡◌, ◌≤◌, ◌&&◌, take, length}
-use Rattle.pm_model.specs.History.{history_of}
-use Rattle.pm_model.specs.Ticks.{is_within}
-use Rattle.pm_model.specs.Counted.{is_counted}
-use Rattle.pm_model.specs.Value.{values_where}
+use Rattle.pm_history.specs.History.{history_of}
+use Rattle.pm_history.specs.Ticks.{is_within}
+use Rattle.pm_history.specs.Counted.{is_counted}
+use Rattle.pm_history.specs.Value.{values_where}
 use Rattle.pm_slow.specs.Book.{terms_in}
 use Rattle.pm_slow.proofs.value.counted_values.Given as goal
 

@@ -1,5 +1,5 @@
 use Rattle.std.proofs.Common.{ℕ, ◌<◌, ◌≤◌, slice_index}
-use Rattle.pm_model.specs.Crossing.{IsRearmedBetween}
+use Rattle.pm_history.specs.Crossing.{IsRearmedBetween}
 use Rattle.pm_thresh.proofs.plain.is_rearmed_before.Given as goal
 
 abbrev pub invariant-loop-place : goal.invariant-loop-place

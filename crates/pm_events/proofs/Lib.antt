@@ -1,0 +1,6 @@
+pub mod EventLineLemmas
+pub mod EventLemmas
+pub mod SameNamesLemmas
+pub mod SlotTableLemmas
+pub mod LastWordLemmas
+pub mod ReaderLemmas

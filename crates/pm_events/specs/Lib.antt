@@ -1,0 +1,4 @@
+pub mod SamePieces
+pub mod SlotTableFields
+pub mod EventLine
+pub mod Event

@@ -1,0 +1,10 @@
+pub mod TickLemmas
+pub mod HistoryLemmas
+pub mod StayLemmas
+pub mod StandingLemmas
+pub mod StepLemmas
+pub mod CrossedLemmas
+pub mod DistinctLemmas
+pub mod RangeLemmas
+pub mod SumLemmas
+pub mod ConservedLemmas

@@ -1,0 +1,13 @@
+pub mod Crossing
+pub mod Entry
+pub mod History
+pub mod Terms
+pub mod Ticks
+pub mod Standing
+pub mod Counted
+pub mod Value
+pub mod Files
+pub mod Crossed
+pub mod Notices
+pub mod Conserved
+pub mod Laws

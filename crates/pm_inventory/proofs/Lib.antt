@@ -1,0 +1,10 @@
+pub mod PlaceLemmas
+pub mod SlotLemmas
+pub mod SlotNamesLemmas
+pub mod EventSlotLemmas
+pub mod InventoryTextLemmas
+pub mod DefaultLemmas
+pub mod WholeLinesLemmas
+pub mod InventoryLineLemmas
+pub mod InventoryReadingLemmas
+pub mod InventoryLawLemmas

@@ -1,0 +1,11 @@
+pub mod Inventory
+pub mod Slot
+pub mod SlotNames
+pub mod InventoryFields
+pub mod Default
+pub mod InventoryLine
+pub mod InventoryReading
+pub mod InventoryLaw
+pub use Rattle.pm_dn.specs.Tree
+pub use Rattle.pm_dn.specs.Containment
+pub use Rattle.pm_meas.specs.Def

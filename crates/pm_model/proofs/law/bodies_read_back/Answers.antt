@@ -1,5 +1,0 @@
-use Rattle.pm_model.proofs.BodyLemmas.{job_of-is, monitor_of-is}
-use Rattle.pm_model.proofs.law.bodies_read_back.Goals as goal
-
-pub returns : goal.returns
-returns c = (job_of-is, monitor_of-is)

@@ -1,5 +1,0 @@
-use Rattle.pm_model.proofs.DistinctLemmas.{files_of-distinct}
-use Rattle.pm_model.proofs.law.files_distinct.Goals as goal
-
-pub returns : goal.returns
-returns c = λ terms h. files_of-distinct terms h

@@ -1,6 +1,0 @@
-use Rattle.std.proofs.Common.{◌≡◌, ◌++◌, take, map}
-use Rattle.pm_model.specs.Inventory.{measure_line, text_of_lines}
-use Rattle.pm_model.proofs.listing.write_measures.Given as goal
-
-abbrev pub invariant-loop-metric : goal.invariant-loop-metric
-invariant-loop-metric l = l.text.items ≡ l.initial.text.items ++ text_of_lines (map measure_line (take l.metric l.catalogue))

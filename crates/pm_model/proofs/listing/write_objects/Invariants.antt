@@ -1,6 +1,0 @@
-use Rattle.std.proofs.Common.{◌≡◌, ◌++◌, take, map}
-use Rattle.pm_model.specs.Inventory.{object_line, text_of_lines}
-use Rattle.pm_model.proofs.listing.write_objects.Given as goal
-
-abbrev pub invariant-loop-object : goal.invariant-loop-object
-invariant-loop-object l = l.text.items ≡ l.initial.text.items ++ text_of_lines (map object_line (take l.object l.tree))

@@ -1,8 +1,0 @@
-use Rattle.std.specs.List.{flat_map}
-use Rattle.std.proofs.Common.{take}
-use Rattle.pm_model.specs.Slot.{slots_of_def}
-use Rattle.pm_model.specs.SlotTableFields.{Lists}
-use Rattle.pm_model.proofs.slot_table.list_slots.Given as goal
-
-abbrev pub invariant-loop-metric : goal.invariant-loop-metric
-invariant-loop-metric l = Lists l.entries.items (flat_map (slots_of_def l.inventory.objects) (take l.metric l.inventory.measures))
