@@ -1,5 +1,5 @@
 -- Reads through a feed, one after the other.
-use Rattle.std.proofs.Common.{◌≤◌, ℕ, List, refl, ◌∙◌}
+use Rattle.std.proofs.Common.{◌≤◌, ℕ, List, length, refl, ◌∙◌}
 use Rattle.pm_outside.specs.Feed.{FeedState, KnowsEnd, MOST_READ, MOST_AHEAD, ReadsOn}
 
 -- Nothing is read.
