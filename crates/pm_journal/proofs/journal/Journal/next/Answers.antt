@@ -2,7 +2,7 @@ use Rattle.std.proofs.Common.{refl, drop, ap, subst, arith}
 use Rattle.pm_disk.specs.Moments.{Told, of}
 use Rattle.pm_journal.specs.declared.reading.Found.{Found}
 use Rattle.pm_journal.specs.Reading.{FindsAt}
-use Rattle.pm_journal.proofs.ReadingLemmas.{handed_out_at, tied_after_item}
+use Rattle.pm_journal.proofs.NextLemmas.{handed_out_at, tied_after_item}
 use Rattle.pm_journal.proofs.ListLemmas.{keeps_at_look}
 use Rattle.pm_journal.proofs.OpeningLemmas.{reading_is_not_ready}
 use Rattle.pm_journal.proofs.journal.Journal.next.Goals as goal
