@@ -77,9 +77,18 @@ impl Feed {
 
     /// How many bytes `line` and `take` have taken out of the feed.
     pub fn given(&self) -> u64
-        ensures { result ≡ self.now.given }
+        ensures value { result ≡ self.now.given }
+        ensures most { result ≤ MOST_READ }
     {
         self.read - (self.end - self.start) as u64
+    }
+
+    /// The bytes that were read and not taken, at most 65,536. The next call takes of them first.
+    pub fn held(&self) -> &[u8]
+        ensures value { result.now ≡ self.now.buffered }
+        ensures few { length result.now ≤ MOST_AHEAD }
+    {
+        &self.buffer[self.start..self.end]
     }
 
     /// The bytes of the line, without its line feed, where the last call of `line` or `take` was a `line` that answered
@@ -140,6 +149,7 @@ impl Feed {
 
         // What the buffer holds is given, whatever the source does.
         ensures wanted { OnErr result ((self.old.buffered ≡ []) × (self.old.ended ≡ false) × (0 < length buf.old)) }
+        ensures emptied { OnErr result (self.new.buffered ≡ []) }
         ensures counted { S.faults source.new ≡ faults_after (is_failed result) (S.faults source.old) }
     {
         self.line = 0;
@@ -159,6 +169,7 @@ impl Feed {
         ensures given { self.new.given ≡ self.old.given }
         ensures none_lent { self.new.line ≡ [] }
         ensures ahead { length self.new.buffered ≤ MOST_AHEAD }
+        ensures emptied { OnErr result (self.new.buffered ≡ []) }
         ensures some { OnOk result ((0 < length self.new.buffered) ⊎ (self.new.ended ≡ true)) }
         ensures knows_end { S.IsTold → KnowsEnd self.new (S.left source.new) }
         ensures limit { result ≡ Err FeedError.Limit → IsSpent self.old }

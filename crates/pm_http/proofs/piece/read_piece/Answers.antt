@@ -13,7 +13,7 @@ returns-else-line-gt-MOST_LINE-clause-moves g c =
     moved-line c.args.head.now.items (left_to c.args.feed.now (g.S.Source.left c.args.source.now)) c.bytes-line.result.now
     (left_to c.line.new.self (g.S.Source.left c.line.new.source)) c.push_line.new.head.items c.push_line.result c.given-before.result c.given.result
     (rw c.bytes-line.ensures line.0)
-    (rw (c.given.ensures, c.given-before.ensures) (c.line.ensures.reads.given told))
+    (rw (c.given.ensures.value, c.given-before.ensures.value) (c.line.ensures.reads.given told))
     c.push_line.ensures
 
 pub returns-in-Ok-Long-clause-moves : goal.returns-in-Ok-Long-clause-moves
