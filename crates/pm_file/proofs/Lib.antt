@@ -6,3 +6,4 @@ pub mod Utf8Lemmas
 pub mod WriteLemmas
 pub mod NameLemmas
 pub mod KeptLemmas
+pub mod NumberLemmas

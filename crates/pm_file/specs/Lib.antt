@@ -8,3 +8,5 @@ pub mod Reading
 pub mod Body
 pub mod HeaderOf
 pub mod Name
+pub mod Numbers
+pub mod Numbered

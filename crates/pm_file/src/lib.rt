@@ -5,8 +5,10 @@ mod agreement;
 mod body;
 mod error;
 mod file_name;
+mod in_texts;
 mod law;
 mod names;
+mod numbers;
 mod read;
 mod read_groups;
 mod report;
@@ -19,4 +21,5 @@ mod write_groups;
 
 pub use error::ReportError;
 pub use law::report_is_exact;
+pub use numbers::{NumberedGroup, NumberedPart, NumberedReport, NumberedRow};
 pub use report::{Group, Part, Report, Row};
