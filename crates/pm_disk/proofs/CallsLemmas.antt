@@ -26,7 +26,8 @@ recorded_bytes-append (Cut area to done ∷ calls) more = omega (arith, recorded
 recorded_bytes-append (Sync area done ∷ calls) more = omega (arith, recorded_bytes-append calls more)
 
 -- What was recorded stays as it was, whatever follows.
-pub calls_made-append : (calls more : List Call) (bytes next : List ℕ) → length bytes ≡ recorded_bytes calls → calls_made (calls ++ more) (bytes ++ next) ≡ calls_made calls bytes ++ calls_made more next
+pub calls_made-append : (calls more : List Call) (bytes next : List ℕ) → length bytes ≡ recorded_bytes calls
+    → calls_made (calls ++ more) (bytes ++ next) ≡ calls_made calls bytes ++ calls_made more next
 calls_made-append [] more bytes next none =
     let empty : bytes ≡ [] = nil_from_length bytes none in
     ap (λ (b : List ℕ). calls_made more (b ++ next)) empty
@@ -59,27 +60,33 @@ recorded_without (Cut area to done) none = refl
 recorded_without (Sync area done) none = refl
 
 -- A call other than a write.
-pub made_push : (calls calls' : List Call) (bytes : List ℕ) (call : Call) → length bytes ≡ recorded_bytes calls → IsWithoutBytes call → calls' ≡ calls ++ call ∷ [] → calls_made calls' bytes ≡ calls_made calls bytes ++ made_by call ∷ []
+pub made_push : (calls calls' : List Call) (bytes : List ℕ) (call : Call) → length bytes ≡ recorded_bytes calls
+    → IsWithoutBytes call → calls' ≡ calls ++ call ∷ [] → calls_made calls' bytes ≡ calls_made calls bytes ++ made_by call ∷ []
 made_push calls calls' bytes call whole none is =
     ap (λ (cs : List Call). calls_made cs bytes) is
     ∙ ap (λ (b : List ℕ). calls_made (calls ++ call ∷ []) b) (sym (append-nil bytes))
     ∙ calls_made-append calls (call ∷ []) bytes [] whole
     ∙ ap (λ (l : List Made). calls_made calls bytes ++ l) (made_without call [] none)
 
-pub whole_push : (calls calls' : List Call) (bytes : List ℕ) (call : Call) → length bytes ≡ recorded_bytes calls → IsWithoutBytes call → calls' ≡ calls ++ call ∷ [] → length bytes ≡ recorded_bytes calls'
+pub whole_push : (calls calls' : List Call) (bytes : List ℕ) (call : Call) → length bytes ≡ recorded_bytes calls
+    → IsWithoutBytes call → calls' ≡ calls ++ call ∷ [] → length bytes ≡ recorded_bytes calls'
 whole_push calls calls' bytes call whole none is =
     let more : recorded_bytes calls' ≡ recorded_bytes calls + recorded_bytes (call ∷ []) = ap recorded_bytes is ∙ recorded_bytes-append calls (call ∷ []) in
     omega (arith, whole, more, recorded_without call none)
 
 -- A write.
-pub made_push_write : (calls calls' : List Call) (bytes bytes' next : List ℕ) (area : Area) (at : ℕ) (done : Bool) → length bytes ≡ recorded_bytes calls → bytes' ≡ bytes ++ next → calls' ≡ calls ++ Write area at (length next) done ∷ [] → calls_made calls' bytes' ≡ calls_made calls bytes ++ Wrote area at next done ∷ []
+pub made_push_write : (calls calls' : List Call) (bytes bytes' next : List ℕ) (area : Area) (at : ℕ) (done : Bool)
+    → length bytes ≡ recorded_bytes calls → bytes' ≡ bytes ++ next → calls' ≡ calls ++ Write area at (length next) done ∷ []
+    → calls_made calls' bytes' ≡ calls_made calls bytes ++ Wrote area at next done ∷ []
 made_push_write calls calls' bytes bytes' next area at done whole bytes_are is =
     ap (λ (cs : List Call). calls_made cs bytes') is
     ∙ ap (λ (b : List ℕ). calls_made (calls ++ Write area at (length next) done ∷ []) b) bytes_are
     ∙ calls_made-append calls (Write area at (length next) done ∷ []) bytes next whole
     ∙ ap (λ (b : List ℕ). calls_made calls bytes ++ Wrote area at b done ∷ []) (take_all (length next) next (omega arith))
 
-pub whole_push_write : (calls calls' : List Call) (bytes bytes' next : List ℕ) (area : Area) (at : ℕ) (done : Bool) → length bytes ≡ recorded_bytes calls → bytes' ≡ bytes ++ next → calls' ≡ calls ++ Write area at (length next) done ∷ [] → length bytes' ≡ recorded_bytes calls'
+pub whole_push_write : (calls calls' : List Call) (bytes bytes' next : List ℕ) (area : Area) (at : ℕ) (done : Bool)
+    → length bytes ≡ recorded_bytes calls → bytes' ≡ bytes ++ next → calls' ≡ calls ++ Write area at (length next) done ∷ []
+    → length bytes' ≡ recorded_bytes calls'
 whole_push_write calls calls' bytes bytes' next area at done whole bytes_are is =
     let more : recorded_bytes calls' ≡ recorded_bytes calls + (length next + 0) = ap recorded_bytes is ∙ recorded_bytes-append calls (Write area at (length next) done ∷ []) in
     let longer : length bytes' ≡ length bytes + length next = ap length bytes_are ∙ length-append bytes next in

@@ -9,7 +9,8 @@ pub at_rest : (P : DiskState → Type 0) (old : Told) → P old.now → Througho
 at_rest P old here = record { later = []; moments = refl; before = here; each = tt }
 
 -- One call more.
-pub step_on : (P : DiskState → Type 0) (area : Area) (step : AreaState → AreaState → Type 0) (old mid new : Told) → Throughout P old mid → IsStep area step mid new → P new.now → Throughout P old new
+pub step_on : (P : DiskState → Type 0) (area : Area) (step : AreaState → AreaState → Type 0) (old mid new : Told)
+    → Throughout P old mid → IsStep area step mid new → P new.now → Throughout P old new
 step_on P area step old mid new run one here = elim one.past [
   | inl moved ↦ record {
     later = new.now ∷ run.later;
@@ -37,15 +38,18 @@ run_on P old mid new run more = record {
   each = each_append P more.later run.later more.each run.each;
 }
 
-each_weaken : (P Q : DiskState → Type 0) → ((state : DiskState) → P state → Q state) → (states : List DiskState) → Each P states → Each Q states
+each_weaken : (P Q : DiskState → Type 0) → ((state : DiskState) → P state → Q state) → (states : List DiskState) → Each P states
+    → Each Q states
 each_weaken P Q to [] all = tt
 each_weaken P Q to (state ∷ states) all = (to state all.0, each_weaken P Q to states all.1)
 
 -- What follows from P holds at each moment too.
-pub weaken : (P Q : DiskState → Type 0) (old new : Told) → ((state : DiskState) → P state → Q state) → Throughout P old new → Throughout Q old new
+pub weaken : (P Q : DiskState → Type 0) (old new : Told) → ((state : DiskState) → P state → Q state) → Throughout P old new
+    → Throughout Q old new
 weaken P Q old new to run = record { later = run.later; moments = run.moments; before = to old.now run.before; each = each_weaken P Q to run.later run.each }
 
-newest : (P : DiskState → Type 0) (later : List DiskState) (now old : DiskState) (rest past : List DiskState) → now ∷ rest ≡ later ++ old ∷ past → P old → Each P later → P now
+newest : (P : DiskState → Type 0) (later : List DiskState) (now old : DiskState) (rest past : List DiskState)
+    → now ∷ rest ≡ later ++ old ∷ past → P old → Each P later → P now
 newest P [] now old rest past is before all = let same : old ≡ now = cc in subst P same before
 newest P (state ∷ later) now old rest past is before all = let same : state ≡ now = cc in subst P same all.0
 

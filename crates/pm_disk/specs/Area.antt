@@ -7,7 +7,7 @@ pub record AreaState : Type 0 where
   pub synced : List ℕ  -- what a read gave at that sync
   pub least : ℕ  -- the least length since then
   pub greatest : ℕ  -- the greatest length since then
-  pub written : List (ℕ × ℕ)  -- the ranges written since then, each from its first byte to behind its last
+  pub written : List (ℕ × ℕ)  -- the ranges written since then, each from its first byte to the one after its last
 
 -- The byte at this offset lies in none of the ranges.
 abbrev pub IsOutside : ℕ → List (ℕ × ℕ) → Type 0

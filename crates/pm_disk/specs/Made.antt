@@ -12,7 +12,7 @@ pub data Made : Type 0 where
   Synced : Area → Bool → Made
   Looked : Made
 
--- The area behind a write.
+-- The area after a write.
 abbrev pub written_to : AreaState → ℕ → List ℕ → Bool → AreaState
 written_to area at bytes done = record {
   seen = if done then overwritten area.seen at bytes else area.seen;
@@ -22,7 +22,7 @@ written_to area at bytes done = record {
   written = (at, at + length bytes) ∷ area.written;
 }
 
--- The area behind a cut.
+-- The area after a cut.
 abbrev pub cut_to : AreaState → ℕ → Bool → AreaState
 cut_to area to done = record {
   seen = if done then take to area.seen else area.seen;
@@ -32,7 +32,7 @@ cut_to area to done = record {
   written = area.written;
 }
 
--- The area behind a sync.
+-- The area after a sync.
 abbrev pub synced_to : AreaState → Bool → AreaState
 synced_to area done = if done then clean area.seen else area
 
@@ -41,21 +41,21 @@ abbrev pub with_area : DiskState → Area → AreaState → DiskState
 with_area disk First area = record { first = area; second = disk.second }
 with_area disk Second area = record { first = disk.first; second = area }
 
--- The moment behind this one.
+-- The moment after this one.
 abbrev pub then_state : Told → DiskState → Told
 then_state told state = record { now = state; past = told.now ∷ told.past }
 
--- What the disk tells behind a call.
-abbrev pub told_behind : Told → Made → Told
-told_behind told (Wrote area at bytes done) = then_state told (with_area told.now area (written_to (of told.now area) at bytes done))
-told_behind told (CutTo area to done) = then_state told (with_area told.now area (cut_to (of told.now area) to done))
-told_behind told (Synced area done) = then_state told (with_area told.now area (synced_to (of told.now area) done))
-told_behind told Looked = told
+-- What the disk tells after a call.
+abbrev pub told_after : Told → Made → Told
+told_after told (Wrote area at bytes done) = then_state told (with_area told.now area (written_to (of told.now area) at bytes done))
+told_after told (CutTo area to done) = then_state told (with_area told.now area (cut_to (of told.now area) to done))
+told_after told (Synced area done) = then_state told (with_area told.now area (synced_to (of told.now area) done))
+told_after told Looked = told
 
--- What the disk tells behind the calls, the first of them first.
+-- What the disk tells after the calls, the first of them first.
 abbrev pub replayed : Told → List Made → Told
 replayed told [] = told
-replayed told (call ∷ calls) = replayed (told_behind told call) calls
+replayed told (call ∷ calls) = replayed (told_after told call) calls
 
 -- Two empty areas, of which no call was made.
 abbrev pub blank : Told

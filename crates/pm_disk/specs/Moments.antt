@@ -1,7 +1,7 @@
 -- The moments of a disk (this project's own). While a write or a cut is under way, a stop leaves an image that it may leave
--- behind the call: the length lies between those before and behind it, and the bytes of the range hold any value. While a
+-- after the call: the length lies between those before and after it, and the bytes of the range hold any value. While a
 -- sync is under way, a stop leaves an image from before it. So what a stop within a call may leave, a stop before the call
--- or behind it may leave too, and the states between the calls are all the moments that matter.
+-- or after it may leave too, and the states between the calls are all the moments that matter.
 use Rattle.std.specs.Prelude.{◌≡◌, ◌⊎◌, List, [], ◌∷◌, ◌++◌, ℕ}
 use Rattle.pm_disk.specs.declared.area.Area.{Area}
 use Rattle.pm_disk.specs.declared.area.Area.TheVariants.{First, Second}

@@ -1,4 +1,4 @@
--- What the record of a disk in memory stands for.
+-- What the record of a disk in memory says.
 use Rattle.std.specs.Prelude.{ℕ, List, length}
 use Rattle.pm_disk.specs.declared.record.Record.{Record}
 use Rattle.pm_disk.specs.Made.{Made}

@@ -1,7 +1,9 @@
 //! The disk over a file of the working directory.
 //!
 //! What a real file does at a stop is trusted, and said nowhere: this disk tells no content. The clauses on faults hold.
-ghost use Rattle.pm_outside.specs.Causes.{HasCause};
+ghost use Rattle.std.specs.Prelude.{◌≡◌};
+ghost use Rattle.std.specs.Result.{is_err};
+ghost use Rattle.pm_outside.specs.Causes.{faults_after};
 
 use crate::{Area, Disk};
 use pm_outside::Failed;
@@ -22,7 +24,6 @@ pub struct FileDisk {
 }
 
 impl FileDisk {
-    ghost use Rattle.std.specs.Prelude.{◌≡◌};
     ghost use Rattle.pm_disk.specs.Files.{file_faults};
 
     /// Opens the file, and makes it where it is missing, for its owner alone. It is held until the disk is dropped.
@@ -66,7 +67,7 @@ fn open_held<R: Files<File = File>>(rt: &R, path: &str) -> io::Result<File> {
 
 // The value, or a counted fault.
 fn counted<T>(faults: &mut u64, done: Option<T>) -> Result<T, Failed>
-    ensures { HasCause faults.old faults.new result }
+    ensures { faults.new ≡ faults_after (is_err result) faults.old }
 {
     match done {
         Some(value) => Ok(value),

@@ -1,9 +1,10 @@
 //! A disk in memory, of whose calls some fail. It keeps a record of its calls, and tells what they made.
-ghost use Rattle.std.specs.Prelude.{◌≡◌, ◌≤◌, ◌<◌, ◌+◌, ◌++◌, [], ◌∷◌, ◌↔◌, ℕ, length, Contains, IsTrue, IsErr, IfOk};
-ghost use Rattle.pm_outside.specs.Causes.{Rose};
+ghost use Rattle.std.specs.Prelude.{◌≡◌, ◌≤◌, ◌<◌, ◌+◌, ◌++◌, [], ◌∷◌, ◌↔◌, ◌⊎◌, ℕ, true, length, Contains, IsTrue, IsErr, IfOk};
+ghost use Rattle.std.specs.Result.{is_err};
+ghost use Rattle.pm_outside.specs.Causes.{faults_after};
 ghost use Rattle.pm_disk.specs.declared.area.Area.{Area};
 ghost use Rattle.pm_disk.specs.Moments.{of};
-ghost use Rattle.pm_disk.specs.Made.{replayed, blank};
+ghost use Rattle.pm_disk.specs.Made.{Wrote, CutTo, Synced, replayed, blank};
 ghost use Rattle.pm_disk.specs.Record.{made, bytes_kept};
 ghost use Rattle.pm_disk.specs.Contents.{content};
 ghost use Rattle.pm_disk.specs.Sound.{replayed_reads};
@@ -15,8 +16,9 @@ use pm_outside::Failed;
 use std::alloc::{AllocError, Global};
 
 /// A disk in memory. It records its first 65,536 calls, with the bytes of each write. A call past these fails, and so does
-/// a write by which the bytes of all writes together would pass the room. A call that fails leaves what a read gives. No
-/// call takes memory: the room and the record are taken when the disk is made.
+/// a write by which the bytes of all writes together would pass the room: such a call isn't begun. A call that fails by its
+/// number leaves what a read gives, and of a write or a cut the images of one that is torn. No call takes memory: the room
+/// and the record are taken when the disk is made.
 #[derive(Drop)]
 pub struct MemDisk {
     calls: Record,
@@ -29,7 +31,7 @@ pub struct MemDisk {
 }
 
 impl MemDisk {
-    ghost use Rattle.pm_disk.specs.Memory.{told_of, faults_of, fails_of, room_of, count_of};
+    ghost use Rattle.pm_disk.specs.Memory.{told_of, faults_of, fails_of, room_of, count_of, IsFull, IsToFail};
 
     /// An empty disk with room for so many bytes of writes, of whose calls those of these numbers fail, counted from 1.
     pub fn new(alloc: Global, room: u64, fails: &[u64]) -> Result<MemDisk, AllocError>
@@ -63,14 +65,15 @@ impl MemDisk {
 
     // Whether the record has room for no call more.
     fn is_past(&self) -> bool
-        ensures { IsTrue result ↔ (65536 ≤ length (made self.now.calls)) }
+        ensures past { IsTrue result ↔ IsFull self.now }
+        ensures few { count_of self.now ≤ 65536 }
     {
         self.calls.len() >= MAX_CALLS
     }
 
     // Whether the next call is one of those that are to fail.
     fn is_to_fail(&self) -> bool
-        ensures { IsTrue result ↔ Contains (fails_of self.now) (count_of self.now + 1) }
+        ensures { IsTrue result ↔ IsToFail self.now }
     {
         let number = self.calls.len() as u64 + 1;
         self.fails.contains(&number)
@@ -79,8 +82,7 @@ impl MemDisk {
 
 // Counts a fault.
 fn fail(faults: &mut u64) -> Failed
-    ensures rose { Rose faults.old faults.new }
-    ensures later { faults.old ≤ faults.new }
+    ensures { faults.new ≡ faults_after true faults.old }
 {
     *faults = faults.saturating_add(1);
     Failed
@@ -88,10 +90,9 @@ fn fail(faults: &mut u64) -> Failed
 
 impl Disk for MemDisk {
     ghost use Rattle.std.specs.Prelude.{take, drop, OnOk};
-    ghost use Rattle.pm_outside.specs.Causes.{HasCause};
     ghost use Rattle.pm_disk.specs.Area.{IsWrite, IsCut, IsSync};
     ghost use Rattle.pm_disk.specs.Moments.{IsStep};
-    ghost use Rattle.pm_disk.specs.Memory.{told_of, faults_of, IsStopped, IsWriteStopped, SamePlan};
+    ghost use Rattle.pm_disk.specs.Memory.{told_of, faults_of, kept_of, IsFull, IsRefused, IsToFail, Tells, KeepsBytes, SamePlan};
 
     ghost IsTold = { Unit {0} };
 
@@ -104,9 +105,10 @@ impl Disk for MemDisk {
     fn len(&mut self, area: Area) -> Result<u64, Failed>
         ensures length { IfOk result (λ n. n ≡ length (of (told_of self.old).now area).seen) }
         ensures told { told_of self.new ≡ told_of self.old }
-        ensures cause { HasCause (faults_of self.old) (faults_of self.new) result }
-        ensures exact { IsErr result ↔ IsStopped self.old }
+        ensures faults { faults_of self.new ≡ faults_after (is_err result) (faults_of self.old) }
+        ensures exact { IsErr result ↔ (IsFull self.old ⊎ IsToFail self.old) }
         ensures plan { SamePlan self.old self.new }
+        ensures kept { kept_of self.new ≡ kept_of self.old }
     {
         if self.is_past() {
             return Err(fail(&mut self.faults));
@@ -123,9 +125,10 @@ impl Disk for MemDisk {
         requires { at + length buf.old ≤ length (of (told_of self.old).now area).seen }
         ensures bytes { OnOk result (buf.new ≡ take (length buf.old) (drop at (of (told_of self.old).now area).seen)) }
         ensures told { told_of self.new ≡ told_of self.old }
-        ensures cause { HasCause (faults_of self.old) (faults_of self.new) result }
-        ensures exact { IsErr result ↔ IsStopped self.old }
+        ensures faults { faults_of self.new ≡ faults_after (is_err result) (faults_of self.old) }
+        ensures exact { IsErr result ↔ (IsFull self.old ⊎ IsToFail self.old) }
         ensures plan { SamePlan self.old self.new }
+        ensures kept { kept_of self.new ≡ kept_of self.old }
     {
         if self.is_past() {
             return Err(fail(&mut self.faults));
@@ -150,9 +153,11 @@ impl Disk for MemDisk {
     fn write_at(&mut self, area: Area, at: u64, bytes: &[u8]) -> Result<(), Failed>
         requires { at ≤ length (of (told_of self.old).now area).seen }
         ensures told { IsStep area (IsWrite at bytes.now result) (told_of self.old) (told_of self.new) }
-        ensures cause { HasCause (faults_of self.old) (faults_of self.new) result }
-        ensures exact { IsErr result ↔ IsWriteStopped self.old (length bytes.now) }
+        ensures tells { Tells (IsRefused self.old (length bytes.now)) (Wrote area at bytes.now) result self.old self.new }
+        ensures faults { faults_of self.new ≡ faults_after (is_err result) (faults_of self.old) }
+        ensures exact { IsErr result ↔ (IsRefused self.old (length bytes.now) ⊎ IsToFail self.old) }
         ensures plan { SamePlan self.old self.new }
+        ensures kept { KeepsBytes (length bytes.now) self.old self.new }
     {
         if self.is_past() {
             return Err(fail(&mut self.faults));
@@ -174,9 +179,11 @@ impl Disk for MemDisk {
     fn cut(&mut self, area: Area, to: u64) -> Result<(), Failed>
         requires { to ≤ length (of (told_of self.old).now area).seen }
         ensures told { IsStep area (IsCut to result) (told_of self.old) (told_of self.new) }
-        ensures cause { HasCause (faults_of self.old) (faults_of self.new) result }
-        ensures exact { IsErr result ↔ IsStopped self.old }
+        ensures tells { Tells (IsFull self.old) (CutTo area to) result self.old self.new }
+        ensures faults { faults_of self.new ≡ faults_after (is_err result) (faults_of self.old) }
+        ensures exact { IsErr result ↔ (IsFull self.old ⊎ IsToFail self.old) }
         ensures plan { SamePlan self.old self.new }
+        ensures kept { kept_of self.new ≡ kept_of self.old }
     {
         if self.is_past() {
             return Err(fail(&mut self.faults));
@@ -194,9 +201,11 @@ impl Disk for MemDisk {
 
     fn sync(&mut self, area: Area) -> Result<(), Failed>
         ensures told { IsStep area (IsSync result) (told_of self.old) (told_of self.new) }
-        ensures cause { HasCause (faults_of self.old) (faults_of self.new) result }
-        ensures exact { IsErr result ↔ IsStopped self.old }
+        ensures tells { Tells (IsFull self.old) (Synced area) result self.old self.new }
+        ensures faults { faults_of self.new ≡ faults_after (is_err result) (faults_of self.old) }
+        ensures exact { IsErr result ↔ (IsFull self.old ⊎ IsToFail self.old) }
         ensures plan { SamePlan self.old self.new }
+        ensures kept { kept_of self.new ≡ kept_of self.old }
     {
         if self.is_past() {
             return Err(fail(&mut self.faults));

@@ -75,24 +75,44 @@ fn a_call_past_the_record_fails(rt: HostRuntime) -> Result<(), Fail> {
 
 #[test]
 fn a_file_keeps_what_was_written_and_has_one_holder(rt: HostRuntime) -> Result<(), Fail> {
+    let mut buf = [0; 3];
     {
         let mut disk = FileDisk::open(&rt);
         disk.cut(Area::First, 0)?;
-        disk.write_at(Area::First, 0, b"abcd")?;
+        disk.write_at(Area::First, 0, b"abcdefgh")?;
         disk.write_at(Area::First, 2, b"XYZ")?;
+        disk.cut(Area::First, 6)?;
         disk.sync(Area::First)?;
-        assert_eq!(rt; disk.len(Area::First)?, 5);
-        let mut other = FileDisk::open(&rt);
-        assert_eq!(rt; other.sync(Area::First), Err(Failed));
-        assert_eq!(rt; other.faults(), 1);
+        assert_eq!(rt; disk.len(Area::First)?, 6);
+        assert_eq!(rt; disk.faults(), 0);
+
+        // The second area is no file yet.
+        assert_eq!(rt; disk.len(Area::Second), Err(Failed));
+        assert_eq!(rt; disk.write_at(Area::Second, 0, b"x"), Err(Failed));
         assert_eq!(rt; disk.sync(Area::Second), Err(Failed));
-        assert_eq!(rt; disk.faults(), 1);
+        assert_eq!(rt; disk.faults(), 3);
+
+        // A second holder has no file either, and changes none.
+        let mut other = FileDisk::open(&rt);
+        assert_eq!(rt; other.len(Area::First), Err(Failed));
+        assert_eq!(rt; other.read(Area::First, 0, &mut buf), Err(Failed));
+        assert_eq!(rt; other.write_at(Area::First, 0, b"x"), Err(Failed));
+        assert_eq!(rt; other.cut(Area::First, 0), Err(Failed));
+        assert_eq!(rt; other.sync(Area::First), Err(Failed));
+        assert_eq!(rt; other.faults(), 5);
     }
     let mut disk = FileDisk::open(&rt);
-    let mut buf = [0; 3];
+    assert_eq!(rt; disk.len(Area::First)?, 6);
     disk.read(Area::First, 1, &mut buf)?;
     assert_eq!(rt; buf, *b"bXY");
-    assert_eq!(rt; disk.read(Area::First, 3, &mut buf), Err(Failed));
+    disk.read(Area::First, 3, &mut buf)?;
+    assert_eq!(rt; buf, *b"YZf");
+    assert_eq!(rt;
+        disk.read(Area::First, 4, &mut buf),
+        Err(Failed),
+        "past the end"
+    );
+    assert_eq!(rt; disk.faults(), 1);
     fs::remove_file(&rt, FIRST_FILE)?;
     Ok(())
 }

@@ -2,3 +2,5 @@ pub mod EventLineLemmas
 pub mod EventLemmas
 pub mod SameNamesLemmas
 pub mod SlotTableLemmas
+pub mod LastWordLemmas
+pub mod ReaderLemmas

@@ -3,14 +3,19 @@
 
 mod event;
 mod event_line;
+mod event_reading;
+mod last_word;
 mod named_slot;
 mod names_hash;
+mod reader;
 mod same_names;
 mod slot_places;
 mod slot_table;
 
 pub use event::{Event, MOST_REGISTERED};
 pub use event_line::{EventLine, read_event_line};
+pub use event_reading::read_event;
+pub use reader::Reader;
 pub use slot_table::SlotTable;
 
 #[cfg(test)]

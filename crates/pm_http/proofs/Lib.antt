@@ -4,6 +4,7 @@ pub mod ResourceLemmas
 pub mod RouteLemmas
 pub mod ReplyLemmas
 pub mod FieldLemmas
+pub mod ReadsLemmas
 pub mod HeadLemmas
 pub mod GatherLemmas
 pub mod StepLemmas
@@ -13,3 +14,4 @@ pub mod LimitLemmas
 pub mod ReadLemmas
 pub mod QueryLemmas
 pub mod StreamLawLemmas
+pub mod StopsLemmas

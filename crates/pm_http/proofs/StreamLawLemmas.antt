@@ -1,5 +1,5 @@
 -- That bytes go on in one way.
-use Rattle.std.proofs.Common.{◌≡◌, ℕ, ◌≤◌, ◌⊎◌, inl, inr, Bool, Option, List, [], ◌∷◌, ◌++◌, length, refl, sym, ap, ◌∙◌, subst, arith, append-nil, length-append, take_all}
+use Rattle.std.proofs.Common.{◌≡◌, ℕ, ◌+◌, ◌-◌, ◌≤◌, ◌⊎◌, inl, inr, Bool, true, false, Option, None, List, [], ◌∷◌, ◌++◌, length, refl, sym, ap, ◌∙◌, subst, arith, append-nil, length-append, take_all}
 use Rattle.std.specs.Bool.{IsTrue}
 use Rattle.std.specs.Str.{IsUtf8}
 use Rattle.std.proofs.lemmas.List.Elements.{All-nil, All-cons}
@@ -14,8 +14,8 @@ use Rattle.pm_http.specs.declared.size.BodySize.TheVariants.{Refused, Bytes}
 use Rattle.pm_http.specs.declared.request.Request.{Request}
 use Rattle.pm_http.specs.declared.next.Next.TheVariants as next
 use Rattle.pm_http.specs.Head.{body_size, fields_of, moment_of, closes}
-use Rattle.pm_http.specs.Stream.{looked_at, HasHead, IsFirst, IsUnfinished, HasNoHead, IsRefused, EndsInBody, EndsInRequest}
-use Rattle.pm_http.specs.StreamLaw.{OneNext}
+use Rattle.pm_http.specs.Stream.{looked_at, HasHead, IsFirst, IsUnfinished, HasNoHead, IsRefused, EndsInHead, EndsInBody, EndsInRequest}
+use Rattle.pm_http.specs.StreamLaw.{OneNext, Either, IsStream, OneStep}
 use Rattle.pm_http.proofs.GatherLemmas.{no_head-nothing}
 use Rattle.pm_http.proofs.StepLemmas.{reads_all}
 use Rattle.pm_http.proofs.AnswerLemmas.{head_in_front, other_size, same_size}
@@ -186,3 +186,44 @@ next_is_one bytes offset (next.CutShort at) (next.Request s) left rest a b = abs
 next_is_one bytes offset (next.CutShort at) next.End left rest a b = absurd (omega (arith, ap length b.0, a.1))
 next_is_one bytes offset (next.CutShort i) (next.Framing code at) left rest a b = inr (refused_cut bytes code b.1 a.2)
 next_is_one bytes offset (next.CutShort i) (next.CutShort j) left rest a b = inl (one_cut i j offset a.0 b.0)
+
+-- What is left after a request is one thing.
+same_rest : (a b c d : List ℕ) → a ++ b ≡ c ++ d → length a ≡ length c → b ≡ d
+same_rest [] b [] d e sizes = e
+same_rest [] b (y ∷ c) d e sizes = absurd (omega (arith, sizes))
+same_rest (x ∷ a) b [] d e sizes = absurd (omega (arith, sizes))
+same_rest (x ∷ a) b (y ∷ c) d e sizes =
+    let rest : a ++ b ≡ c ++ d = cc in
+    let fewer : length a ≡ length c = omega (arith, sizes) in
+    same_rest a b c d rest fewer
+
+one_rest : (bytes : List ℕ) (r : Request) (left rest : List ℕ) → IsFirst bytes r left → IsFirst bytes r rest → left ≡ rest
+one_rest bytes r left rest f g =
+    same_rest r.body left r.body rest (request_unique bytes f.head g.head (r.body ++ left) (r.body ++ rest) f.reads g.reads).1 refl
+
+open_one : (b : Bool) (first second : Type 0) → b ≡ false → Either b first second → second
+open_one true first second e is = cc (e)
+open_one false first second e is = is
+
+close_one : (b : Bool) (first second : Type 0) → b ≡ false → second → Either b first second
+close_one true first second e is = cc (e)
+close_one false first second e is = is
+
+pub step_is_one : OneStep
+step_is_one bytes after offset request requests end first open_on = (
+  λ stream.
+      subst (λ (rest : List ℕ). IsStream rest (offset + (length bytes - length rest)) requests end) (one_rest bytes request stream.0 after stream.1 first)
+      (open_one request.close ((requests ≡ []) × (end ≡ None)) (IsStream stream.0 (offset + (length bytes - length stream.0)) requests end) open_on stream.2),
+  λ stream.
+      (after, first, close_one request.close ((requests ≡ []) × (end ≡ None)) (IsStream after (offset + (length bytes - length after)) requests end) open_on stream),
+)
+
+-- Nothing may become a head.
+pub nothing_in_head : EndsInHead []
+nothing_in_head = record {
+  few = omega arith;
+  unended = record {
+    none = no_head-nothing;
+    may = inl (print_request a_head, a_head, (a_head_is, sym (append-nil (print_request a_head))));
+  };
+}

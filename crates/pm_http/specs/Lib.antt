@@ -2,6 +2,7 @@ pub mod Target
 pub mod Resource
 pub mod Route
 pub mod Reply
+pub mod Outgoing
 pub mod Head
 pub mod Fields
 pub mod Stream

@@ -12,7 +12,13 @@ use Rattle.pm_http.specs.declared.sight.Sight.{Sight}
 use Rattle.pm_http.specs.declared.sight.Sight.TheVariants as sight
 use Rattle.pm_http.specs.declared.head_end.HeadEnd.{HeadEnd}
 use Rattle.pm_http.specs.declared.head_end.HeadEnd.TheVariants as ends
-use Rattle.pm_http.specs.Stream.{MOST_HEAD, looked_at, HasHead, IsUnfinished, EndsInHead, EndsInRequest, readable}
+use Rattle.pm_http.specs.declared.error.HttpError.{HttpError}
+use Rattle.pm_http.specs.declared.error.HttpError.TheVariants as http
+use Rattle.pm_http.specs.Stream.{MOST_HEAD, looked_at, HasHead, IsUnfinished, EndsInHead, HoldsNoHead, EndsInRequest, readable, StopsAtFault, StopsForMemory}
+
+-- The most bytes of a piece: a line and its line feed.
+abbrev pub MOST_PIECE : ℕ
+MOST_PIECE = 2049
 
 -- The bytes are an empty line, another line, a part of a line without its end, or nothing.
 abbrev pub IsPiece : Piece → List ℕ → Type 0
@@ -56,13 +62,13 @@ IsLast Limit = Unit {0}
 abbrev pub BeginsLine : ℕ → List ℕ → Type 0
 BeginsLine given left = HasNoLineFeed (take (MOST_LINE + 1) left) ⊎ HasNoLineFeed (readable given left)
 
--- How many bytes were taken behind this piece: fewer than may be at the end, and all that may be at the limit.
+-- How many bytes were taken after this piece: fewer than may be at the end, and all that may be at the limit.
 abbrev pub PieceStands : ℕ → Piece → Type 0
 PieceStands given End = given < MOST_READ
 PieceStands given Limit = given ≡ MOST_READ
 PieceStands given _ = given ≤ MOST_READ
 
--- A piece was moved behind what is gathered; none was at the end alone.
+-- A piece was moved after what is gathered; none was at the end alone.
 pub record Moves (old left_old new left_new : List ℕ) (piece : Piece) : Type 0 where
   pub bytes : List ℕ
   pub is : IsPiece piece bytes
@@ -165,3 +171,21 @@ MayGrow bytes false = NeverHasRequest (looked_at bytes)
 abbrev pub Fills : List ℕ → List ℕ → List ℕ → Bool → Type 0
 Fills old new body true = old ≡ body ++ new
 Fills old new body false = (n : ℕ) × (n < length body) × (old ≡ take n body) × (new ≡ [])
+
+-- The source failed inside a body of this size: fewer bytes were taken.
+pub record FailsInBody (old new : List ℕ) (size : ℕ) : Type 0 where
+  pub taken : List ℕ
+  pub split : old ≡ taken ++ new
+  pub fewer : length taken < size
+
+-- Why the reading of a head stops: at a fault the bytes that were taken hold no head, and out of memory they end inside one.
+abbrev pub StopsInHead : List ℕ → List ℕ → HttpError → Type 0
+StopsInHead all left http.ReadFault = (taken : List ℕ) × (all ≡ taken ++ left) × HoldsNoHead taken
+StopsInHead all left http.Memory = (taken : List ℕ) × (all ≡ taken ++ left) × EndsInHead taken
+StopsInHead all left http.Limit = ⊥
+
+-- Why the reading after a whole head stops.
+abbrev pub StopsAfterHead : List ℕ → List ℕ → HttpError → Type 0
+StopsAfterHead all left http.ReadFault = StopsAtFault all left
+StopsAfterHead all left http.Memory = StopsForMemory all left
+StopsAfterHead all left http.Limit = Unit {0}

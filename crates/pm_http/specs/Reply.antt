@@ -1,5 +1,5 @@
 -- The text of a reply (RFC 9112, sections 4 to 6; its fields and bodies are this project's own).
-use Rattle.std.specs.Prelude.{◌==◌, ◌≡◌, ◌≤◌, ℕ, Bool, List, [], ◌++◌, length, take, codes, decimal, unwrap_or, if◌then◌else◌, Option, Some, None, Result, Ok, Err}
+use Rattle.std.specs.Prelude.{◌==◌, ◌&&◌, ◌≡◌, ◌≤◌, ℕ, Bool, not, List, [], ◌++◌, length, take, codes, decimal, unwrap_or, if◌then◌else◌, Option, Some, None, Result, Ok, Err}
 use Rattle.http.specs.StatusCode.{reason_phrase}
 use Rattle.pm_base.specs.declared.code.Code.{Code}
 use Rattle.pm_base.specs.declared.code.Code.TheVariants.{E1, E2, E3, E4, H6}
@@ -24,7 +24,7 @@ body_fields size = codes "Content-Type: application/json\r\nContent-Length: " ++
 abbrev pub content_fields : ℕ → ℕ → List ℕ
 content_fields status size = if status == 204 then [] else body_fields size
 
--- The field that names the methods, which stands with H6 alone.
+-- The field that names the methods comes with H6 alone.
 abbrev pub allow_field : Option Code → List ℕ → List ℕ
 allow_field (Some H6) allow = codes "Allow: " ++ allow ++ crlf
 allow_field _ allow = []
@@ -54,9 +54,13 @@ refusal_or None line body = body
 abbrev pub content_of : Reply → List ℕ
 content_of reply = refusal_or reply.code reply.line reply.body
 
--- The body as it is written; a reply 204 has none.
+-- A body is written: not with status 204, and not in reply to HEAD (RFC 9110, section 9.3.2).
+abbrev pub has_body : Reply → Bool
+has_body reply = not (reply.status == 204) && not reply.head
+
+-- The body as it is written.
 abbrev pub body_text : Reply → List ℕ
-body_text reply = if reply.status == 204 then [] else content_of reply
+body_text reply = if has_body reply then content_of reply else []
 
 -- The lines before the body, with the empty one.
 unfoldable pub head_text : Reply → ℕ → Bool → List ℕ
@@ -72,8 +76,8 @@ head_text reply moment close =
 abbrev pub reply_text : Reply → ℕ → Bool → List ℕ
 reply_text reply moment close = head_text reply moment close ++ body_text reply
 
--- A write: the bytes written grow by all of these, at a fault of the sink by some of the first of them, and at want of
--- memory by none.
+-- A write: the bytes written grow by all of these, at a fault of the sink by some of the first of them, and out of memory
+-- by none.
 abbrev pub Writes : List ℕ → List ℕ → List ℕ → Result Unit ReplyError → Type 0
 Writes old new text (Ok _) = new ≡ old ++ text
 Writes old new text (Err WriteFault) = (n : ℕ) × (n ≤ length text) × (new ≡ old ++ take n text)

@@ -1,11 +1,13 @@
 -- The requests of a stream of bytes, from its front (RFC 9112; the codes and the limits are this project's own).
-use Rattle.std.specs.Prelude.{◌≡◌, ◌+◌, ◌-◌, ◌<◌, ◌≤◌, ◌⊎◌, ℕ, List, [], ◌++◌, length, take}
+use Rattle.std.specs.Prelude.{◌≡◌, ◌+◌, ◌-◌, ◌<◌, ◌≤◌, ◌⊎◌, ℕ, Bool, true, false, List, [], ◌++◌, length, take, Result, Ok, Err}
 use Rattle.httparse.specs.Grammar.{RequestHead, print_request, ReadsRequest, HasNoRequest, NeverHasRequest, MayBecomeRequest, EndsInTarget}
 use Rattle.pm_base.specs.declared.code.Code.{Code}
 use Rattle.pm_base.specs.declared.code.Code.TheVariants.{H1, H2}
 use Rattle.pm_outside.specs.Feed.{MOST_READ}
 use Rattle.pm_http.specs.declared.size.BodySize.TheVariants.{Refused, Bytes}
 use Rattle.pm_http.specs.declared.request.Request.{Request}
+use Rattle.pm_http.specs.declared.error.HttpError.{HttpError}
+use Rattle.pm_http.specs.declared.error.HttpError.TheVariants.{ReadFault, Limit, Memory}
 use Rattle.pm_http.specs.declared.next.Next.{Next}
 use Rattle.pm_http.specs.declared.next.Next.TheVariants as next
 use Rattle.pm_http.specs.Head.{MOST_BODY, fields_of, body_size, moment_of, closes}
@@ -72,6 +74,42 @@ pub record EndsInBody (bytes : List ℕ) : Type 0 where
 -- The bytes end inside a request, or before its first byte.
 abbrev pub EndsInRequest : List ℕ → Type 0
 EndsInRequest bytes = EndsInHead bytes ⊎ EndsInBody bytes
+
+-- The bytes hold no whole head, and too few for H2.
+pub record HoldsNoHead (bytes : List ℕ) : Type 0 where
+  pub few : length bytes < MOST_HEAD
+  pub none : HasNoRequest bytes
+
+-- The bytes hold no whole request, and a head that they hold breaks no rule.
+abbrev pub HoldsNoRequest : List ℕ → Type 0
+HoldsNoRequest bytes = HoldsNoHead bytes ⊎ EndsInBody bytes
+
+-- The bytes are a whole request that breaks no rule.
+pub record IsWhole (bytes : List ℕ) : Type 0 where
+  pub head : RequestHead
+  pub body : List ℕ
+  pub reads : ReadsRequest bytes head body
+  pub short : length (print_request head) ≤ MOST_HEAD
+  pub size : body_size head ≡ Bytes (length body)
+
+-- The source failed: of the bytes that were left some were taken, and they hold no whole request.
+pub record StopsAtFault (before after : List ℕ) : Type 0 where
+  pub taken : List ℕ
+  pub split : before ≡ taken ++ after
+  pub none : HoldsNoRequest taken
+
+-- Out of memory: of the bytes that were left some were taken, and they break no rule. They end inside a request, or are one.
+pub record StopsForMemory (before after : List ℕ) : Type 0 where
+  pub taken : List ℕ
+  pub split : before ≡ taken ++ after
+  pub good : EndsInRequest taken ⊎ IsWhole taken
+
+-- The answer is that the source failed.
+abbrev pub is_read_fault : {T : Type 0} → Result T HttpError → Bool
+is_read_fault (Ok value) = false
+is_read_fault (Err ReadFault) = true
+is_read_fault (Err Limit) = false
+is_read_fault (Err Memory) = false
 
 -- Of the bytes that are left, those that may still be read.
 abbrev pub readable : ℕ → List ℕ → List ℕ

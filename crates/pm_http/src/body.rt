@@ -1,11 +1,12 @@
 //! The reading of a body.
-ghost use Rattle.std.specs.Prelude.{◌≡◌, ◌≤◌, ◌+◌, ◌<◌, false, Ok, Err, length, vec_len, IfOk};
-ghost use Rattle.pm_outside.specs.Causes.{Rose};
-ghost use Rattle.pm_outside.specs.Feed.{left_to, KnowsEnd, MOST_READ};
-ghost use Rattle.pm_http.specs.Piece.{BodyStops, Fills};
+ghost use Rattle.std.specs.Prelude.{◌≡◌, ◌≢◌, ◌≤◌, ◌+◌, ◌<◌, false, Ok, Err, length, vec_len, IfOk};
+ghost use Rattle.pm_outside.specs.Causes.{faults_after};
+ghost use Rattle.pm_outside.specs.Feed.{left_to, KnowsEnd, MOST_READ, MOST_AHEAD, ReadsOn};
+ghost use Rattle.pm_http.specs.Stream.{is_read_fault};
+ghost use Rattle.pm_http.specs.Piece.{BodyStops, Fills, FailsInBody};
 
 use crate::HttpError;
-use crate::taking::take_behind;
+use crate::taking::take_after;
 use pm_outside::{Feed, FeedError, Source};
 use std::alloc::{AllocError, Global};
 
@@ -22,20 +23,21 @@ pub fn fill<S: Source>(
     source: &mut S,
     body: &mut Vec<u8>,
 ) -> Result<bool, HttpError>
+    requires within { feed.old.given ≤ MOST_READ }
+    requires ahead { length feed.old.buffered ≤ MOST_AHEAD }
     requires knows_end { S.IsTold → KnowsEnd feed.old (S.left source.old) }
     ensures fills { S.IsTold → IfOk result (Fills (left_to feed.old (S.left source.old)) (left_to feed.new (S.left source.new)) body.new.items) }
     ensures room { vec_len body.new ≡ vec_len body.old }
-    ensures given { S.IsTold → feed.new.given + length (left_to feed.new (S.left source.new)) ≡ feed.old.given + length (left_to feed.old (S.left source.old)) }
-    ensures knows_end { S.IsTold → KnowsEnd feed.new (S.left source.new) }
-    ensures most { feed.old.given ≤ MOST_READ → feed.new.given ≤ MOST_READ }
+    ensures reads { ReadsOn S.IsTold feed.old feed.new (S.left source.old) (S.left source.new) }
     ensures cut { S.IsTold → result ≡ Ok false → feed.new.given < MOST_READ }
     ensures limit { S.IsTold → result ≡ Err HttpError.Limit → BodyStops feed.old.given (left_to feed.old (S.left source.old)) (vec_len body.old) }
-    ensures failed { result ≡ Err HttpError.ReadFault → Rose (S.faults source.old) (S.faults source.new) }
-    ensures later { S.faults source.old ≤ S.faults source.new }
+    ensures fault { S.IsTold → result ≡ Err HttpError.ReadFault → FailsInBody (left_to feed.old (S.left source.old)) (left_to feed.new (S.left source.new)) (vec_len body.old) }
+    ensures no_memory { result ≢ Err HttpError.Memory }
+    ensures counted { S.faults source.new ≡ faults_after (is_read_fault result) (S.faults source.old) }
 {
     let mut at = 0;
     'bytes: while at < body.len() {
-        match take_behind(feed, source, body, at) {
+        match take_after(feed, source, body, at) {
             Ok(0) => return Ok(false),
             Ok(count) => at += count,
             Err(FeedError::Failed) => return Err(HttpError::ReadFault),

@@ -1,17 +1,16 @@
 //! The reading of a head.
-ghost use Rattle.std.specs.Prelude.{◌≡◌, ◌≢◌, ◌<◌, ◌≤◌, ◌+◌, ◌++◌, false, [], ℕ, List, None, Ok, Err, length, vec_len, IfOk, OnOk, IfSome};
+ghost use Rattle.std.specs.Prelude.{◌≡◌, ◌≢◌, ◌<◌, ◌≤◌, ◌++◌, false, [], ℕ, List, None, length, vec_len, IfOk, IfErr, OnOk, IfSome};
 ghost use Rattle.httparse.specs.Grammar.{HasNoRequest};
-ghost use Rattle.pm_outside.specs.Causes.{Rose};
-ghost use Rattle.pm_outside.specs.Feed.{left_to, KnowsEnd, MOST_READ};
-ghost use Rattle.pm_http.specs.Stream.{MOST_HEAD, looked_at};
-ghost use Rattle.pm_http.specs.Piece.{Gathers, Grows, EndsHead, StepsHead, HeadStands, PieceStands, IsBegun, IsLast, ShowsEnd, MayGrow};
+ghost use Rattle.pm_outside.specs.Causes.{faults_after};
+ghost use Rattle.pm_outside.specs.Feed.{left_to, KnowsEnd, MOST_READ, MOST_AHEAD, ReadsOn};
+ghost use Rattle.pm_http.specs.Stream.{MOST_HEAD, looked_at, is_read_fault};
+ghost use Rattle.pm_http.specs.Piece.{MOST_PIECE, Gathers, Grows, StopsInHead, EndsHead, StepsHead, HeadStands, PieceStands, IsBegun, IsLast, ShowsEnd, MayGrow};
 
 use crate::HttpError;
 use crate::piece::{Piece, read_piece};
 use crate::sight::{Sight, look};
 use httparse::spans::{HeaderSpan, RequestSpans};
 use pm_outside::{Feed, Source};
-use std::alloc::{AllocError, Global};
 
 /// How the reading of a head ends.
 #[derive(Clone, Copy)]
@@ -32,35 +31,36 @@ pub enum HeadEnd {
     Limit,
 }
 
-// The most bytes of a head.
+// The most bytes of a head, and those of a line with its line feed.
 const MOST_HEAD: usize = 16_384;
 
+const MOST_PIECE: usize = 2_049;
+
 /// Gathers the head at the front of what is left, with its fields in `fields`. A line is looked at once, and the whole head
-/// is parsed behind the empty line that ends it, so the work is in proportion to the bytes, however they come. It is parsed
+/// is parsed after the empty line that ends it, so the work is in proportion to the bytes, however they come. It is parsed
 /// once more for each line of over 2,048 bytes, at the most.
 pub fn read_head<S: Source>(
-    alloc: Global,
     feed: &mut Feed,
     source: &mut S,
     head: &mut Vec<u8>,
     fields: &mut [HeaderSpan],
 ) -> Result<HeadEnd, HttpError>
+    requires within { feed.old.given ≤ MOST_READ }
+    requires ahead { length feed.old.buffered ≤ MOST_AHEAD }
     requires knows_end { S.IsTold → KnowsEnd feed.old (S.left source.old) }
     requires empty { head.old.items ≡ [] }
     requires room { length fields.old ≡ 64 }
     ensures split { S.IsTold → OnOk result (left_to feed.old (S.left source.old) ≡ head.new.items ++ left_to feed.new (S.left source.new)) }
     ensures ends { S.IsTold → IfOk result (EndsHead (left_to feed.old (S.left source.old)) head.new.items (left_to feed.new (S.left source.new)) fields.new) }
     ensures shows { IfOk result (ShowsEnd head.new.items fields.new) }
-    ensures given { S.IsTold → feed.new.given + length (left_to feed.new (S.left source.new)) ≡ feed.old.given + length (left_to feed.old (S.left source.old)) }
-    ensures knows_end { S.IsTold → KnowsEnd feed.new (S.left source.new) }
+    ensures reads { ReadsOn S.IsTold feed.old feed.new (S.left source.old) (S.left source.new) }
     ensures stands { S.IsTold → IfOk result (HeadStands feed.new.given) }
-    ensures no_limit { result ≡ Err HttpError.Limit → ⊥ }
-    ensures failed { result ≡ Err HttpError.ReadFault → Rose (S.faults source.old) (S.faults source.new) }
-    ensures later { S.faults source.old ≤ S.faults source.new }
+    ensures stops { S.IsTold → IfErr result (StopsInHead (left_to feed.old (S.left source.old)) (left_to feed.new (S.left source.new))) }
+    ensures counted { S.faults source.new ≡ faults_after (is_read_fault result) (S.faults source.old) }
 {
     let mut begun = false;
     'pieces: loop {
-        if let Some(end) = read_on(alloc, feed, source, head, fields, &mut begun)? {
+        if let Some(end) = read_on(feed, source, head, fields, &mut begun)? {
             return Ok(end);
         }
     }
@@ -68,13 +68,14 @@ pub fn read_head<S: Source>(
 
 // Gathers one piece more. The head is begun where a line was gathered that isn't empty.
 fn read_on<S: Source>(
-    alloc: Global,
     feed: &mut Feed,
     source: &mut S,
     head: &mut Vec<u8>,
     fields: &mut [HeaderSpan],
     begun: &mut bool,
 ) -> Result<Option<HeadEnd>, HttpError>
+    requires within { feed.old.given ≤ MOST_READ }
+    requires ahead { length feed.old.buffered ≤ MOST_AHEAD }
     requires knows_end { S.IsTold → KnowsEnd feed.old (S.left source.old) }
     requires few { vec_len head.old < MOST_HEAD }
     requires room { length fields.old ≡ 64 }
@@ -82,46 +83,61 @@ fn read_on<S: Source>(
     ensures steps { S.IsTold → (all : List ℕ) → IsBegun begun.old head.old.items → Gathers all head.old.items (left_to feed.old (S.left source.old)) → IfOk result (StepsHead all head.new.items (left_to feed.new (S.left source.new)) fields.new) }
     ensures grows { IfOk result (λ o. o ≡ None → (vec_len head.old < vec_len head.new) × (vec_len head.new < MOST_HEAD)) }
     ensures shows { IfOk result (λ o. IfSome o (ShowsEnd head.new.items fields.new)) }
-    ensures given { S.IsTold → feed.new.given + length (left_to feed.new (S.left source.new)) ≡ feed.old.given + length (left_to feed.old (S.left source.old)) }
-    ensures knows_end { S.IsTold → KnowsEnd feed.new (S.left source.new) }
+    ensures reads { ReadsOn S.IsTold feed.old feed.new (S.left source.old) (S.left source.new) }
     ensures stands { S.IsTold → IfOk result (λ o. IfSome o (HeadStands feed.new.given)) }
-    ensures no_limit { result ≡ Err HttpError.Limit → ⊥ }
-    ensures failed { result ≡ Err HttpError.ReadFault → Rose (S.faults source.old) (S.faults source.new) }
-    ensures later { S.faults source.old ≤ S.faults source.new }
+    ensures stops { S.IsTold → (all : List ℕ) → Gathers all head.old.items (left_to feed.old (S.left source.old)) → IfErr result (StopsInHead all (left_to feed.new (S.left source.new))) }
+    ensures counted { S.faults source.new ≡ faults_after (is_read_fault result) (S.faults source.old) }
 {
-    let piece = read_piece(feed, source, head)?;
-    *begun = is_begun(*begun, piece);
-    match judge(alloc, piece, *begun, head, fields) {
-        Ok(end) => Ok(end),
-        Err(_) => Err(HttpError::Memory),
+    if head.reserve(MOST_PIECE).is_err() {
+        return out_of_room(head, fields);
+    }
+    match read_piece(feed, source, head) {
+        Ok(piece) => {
+            *begun = is_begun(*begun, piece);
+            Ok(judge(piece, *begun, head, fields))
+        }
+        Err(error) => Err(error),
+    }
+}
+
+// The answer where there is no memory for the next piece: that no head begins so, where that is decided.
+#[cold]
+fn out_of_room(head: &[u8], fields: &mut [HeaderSpan]) -> Result<Option<HeadEnd>, HttpError>
+    requires room { length fields.old ≡ 64 }
+    requires few { length head.now < MOST_HEAD }
+    ensures steps { (all left : List ℕ) → Gathers all head.now left → IfOk result (StepsHead all head.now left fields.new) }
+    ensures some { IfOk result (λ o. o ≢ None) }
+    ensures shows { IfOk result (λ o. IfSome o (ShowsEnd head.now fields.new)) }
+    ensures stands { (given : ℕ) → given ≤ MOST_READ → IfOk result (λ o. IfSome o (HeadStands given)) }
+    ensures stops { (all left : List ℕ) → Gathers all head.now left → IfErr result (StopsInHead all left) }
+    ensures memory { IfErr result (λ e. e ≡ HttpError.Memory) }
+{
+    if may_grow(head, fields) {
+        Err(HttpError::Memory)
+    } else {
+        Ok(Some(HeadEnd::Never))
     }
 }
 
 // What the gathered bytes tell, of which the last were moved as this piece.
-fn judge(
-    alloc: Global,
-    piece: Piece,
-    begun: bool,
-    head: &[u8],
-    fields: &mut [HeaderSpan],
-) -> Result<Option<HeadEnd>, AllocError>
+fn judge(piece: Piece, begun: bool, head: &[u8], fields: &mut [HeaderSpan]) -> Option<HeadEnd>
     requires room { length fields.old ≡ 64 }
-    ensures steps { (all left : List ℕ) → IsBegun begun head.now → Grows all head.now left piece → IfOk result (StepsHead all head.now left fields.new) }
-    ensures few { IfOk result (λ o. o ≡ None → (length head.now < MOST_HEAD) × (IsLast piece → ⊥)) }
-    ensures shows { IfOk result (λ o. IfSome o (ShowsEnd head.now fields.new)) }
-    ensures stands { (given : ℕ) → PieceStands given piece → IfOk result (λ o. IfSome o (HeadStands given)) }
+    ensures steps { (all left : List ℕ) → IsBegun begun head.now → Grows all head.now left piece → StepsHead all head.now left fields.new result }
+    ensures few { result ≡ None → (length head.now < MOST_HEAD) × (IsLast piece → ⊥) }
+    ensures shows { IfSome result (ShowsEnd head.now fields.new) }
+    ensures stands { (given : ℕ) → PieceStands given piece → IfSome result (HeadStands given) }
 {
     match piece {
-        Piece::End => at_end(alloc, head, fields),
-        Piece::Limit => at_limit(alloc, head, fields),
-        Piece::Blank if begun => in_between(alloc, head, fields),
-        Piece::Blank => unended(alloc, head, fields),
-        Piece::Line => unended(alloc, head, fields),
-        Piece::Part => unended(alloc, head, fields),
+        Piece::End => at_end(head, fields),
+        Piece::Limit => at_limit(head, fields),
+        Piece::Blank if begun => in_between(head, fields),
+        Piece::Blank => unended(head, fields),
+        Piece::Line => unended(head, fields),
+        Piece::Part => unended(head, fields),
     }
 }
 
-// Whether the head is begun behind this piece.
+// Whether the head is begun after this piece.
 fn is_begun(begun: bool, piece: Piece) -> bool
     ensures { result ≡ false → (begun ≡ false) × (piece ≡ Piece.Blank) }
 {
@@ -132,93 +148,77 @@ fn is_begun(begun: bool, piece: Piece) -> bool
 }
 
 // What the gathered bytes tell, where they hold no whole head.
-fn unended(
-    alloc: Global,
-    head: &[u8],
-    fields: &mut [HeaderSpan],
-) -> Result<Option<HeadEnd>, AllocError>
+fn unended(head: &[u8], fields: &mut [HeaderSpan]) -> Option<HeadEnd>
     requires room { length fields.old ≡ 64 }
-    ensures steps { (all left : List ℕ) (piece : Piece) → (IsLast piece → ⊥) → HasNoRequest head.now → Grows all head.now left piece → IfOk result (StepsHead all head.now left fields.new) }
-    ensures few { IfOk result (λ o. o ≡ None → length head.now < MOST_HEAD) }
-    ensures shows { IfOk result (λ o. IfSome o (ShowsEnd head.now fields.new)) }
-    ensures stands { (given : ℕ) → given ≤ MOST_READ → IfOk result (λ o. IfSome o (HeadStands given)) }
+    ensures steps { (all left : List ℕ) (piece : Piece) → (IsLast piece → ⊥) → HasNoRequest head.now → Grows all head.now left piece → StepsHead all head.now left fields.new result }
+    ensures few { result ≡ None → length head.now < MOST_HEAD }
+    ensures shows { IfSome result (ShowsEnd head.now fields.new) }
+    ensures stands { (given : ℕ) → given ≤ MOST_READ → IfSome result (HeadStands given) }
 {
     if head.len() < MOST_HEAD {
-        return Ok(None);
+        return None;
     }
-    in_between(alloc, head, fields)
+    in_between(head, fields)
 }
 
 // What the gathered bytes tell at the end of the input.
-fn at_end(
-    alloc: Global,
-    head: &[u8],
-    fields: &mut [HeaderSpan],
-) -> Result<Option<HeadEnd>, AllocError>
+fn at_end(head: &[u8], fields: &mut [HeaderSpan]) -> Option<HeadEnd>
     requires room { length fields.old ≡ 64 }
-    ensures steps { (all left : List ℕ) → Grows all head.now left Piece.End → IfOk result (StepsHead all head.now left fields.new) }
-    ensures some { OnOk result (result ≢ Ok None) }
-    ensures shows { IfOk result (λ o. IfSome o (ShowsEnd head.now fields.new)) }
-    ensures stands { (given : ℕ) → given < MOST_READ → IfOk result (λ o. IfSome o (HeadStands given)) }
+    ensures steps { (all left : List ℕ) → Grows all head.now left Piece.End → StepsHead all head.now left fields.new result }
+    ensures some { result ≢ None }
+    ensures shows { IfSome result (ShowsEnd head.now fields.new) }
+    ensures stands { (given : ℕ) → given < MOST_READ → IfSome result (HeadStands given) }
 {
     if head.is_empty() {
-        return Ok(Some(HeadEnd::Nothing));
+        return Some(HeadEnd::Nothing);
     }
-    if may_grow(alloc, head, fields)? {
-        Ok(Some(HeadEnd::Short))
+    if may_grow(head, fields) {
+        Some(HeadEnd::Short)
     } else {
-        Ok(Some(HeadEnd::Never))
+        Some(HeadEnd::Never)
     }
 }
 
 // What the gathered bytes tell where no more may be read.
-fn at_limit(
-    alloc: Global,
-    head: &[u8],
-    fields: &mut [HeaderSpan],
-) -> Result<Option<HeadEnd>, AllocError>
+fn at_limit(head: &[u8], fields: &mut [HeaderSpan]) -> Option<HeadEnd>
     requires room { length fields.old ≡ 64 }
-    ensures steps { (all left : List ℕ) → Grows all head.now left Piece.Limit → IfOk result (StepsHead all head.now left fields.new) }
-    ensures some { OnOk result (result ≢ Ok None) }
-    ensures shows { IfOk result (λ o. IfSome o (ShowsEnd head.now fields.new)) }
-    ensures stands { (given : ℕ) → given ≡ MOST_READ → IfOk result (λ o. IfSome o (HeadStands given)) }
+    ensures steps { (all left : List ℕ) → Grows all head.now left Piece.Limit → StepsHead all head.now left fields.new result }
+    ensures some { result ≢ None }
+    ensures shows { IfSome result (ShowsEnd head.now fields.new) }
+    ensures stands { (given : ℕ) → given ≡ MOST_READ → IfSome result (HeadStands given) }
 {
-    if may_grow(alloc, head, fields)? {
-        Ok(Some(HeadEnd::Limit))
+    if may_grow(head, fields) {
+        Some(HeadEnd::Limit)
     } else {
-        Ok(Some(HeadEnd::Never))
+        Some(HeadEnd::Never)
     }
 }
 
 // Whether more bytes may make a head of the gathered ones.
-fn may_grow(alloc: Global, head: &[u8], fields: &mut [HeaderSpan]) -> Result<bool, AllocError>
+fn may_grow(head: &[u8], fields: &mut [HeaderSpan]) -> bool
     requires room { length fields.old ≡ 64 }
-    ensures { IfOk result (MayGrow head.now) }
+    ensures { MayGrow head.now result }
 {
-    match look(alloc, front(head), fields)? {
-        Sight::Never => Ok(false),
-        Sight::Whole(_) | Sight::Crowded | Sight::More => Ok(true),
+    match look(front(head), fields) {
+        Sight::Never => false,
+        Sight::Whole(_) | Sight::Crowded | Sight::More => true,
     }
 }
 
 // What the gathered bytes tell before the end of the input.
-fn in_between(
-    alloc: Global,
-    head: &[u8],
-    fields: &mut [HeaderSpan],
-) -> Result<Option<HeadEnd>, AllocError>
+fn in_between(head: &[u8], fields: &mut [HeaderSpan]) -> Option<HeadEnd>
     requires room { length fields.old ≡ 64 }
-    ensures steps { (all left : List ℕ) (piece : Piece) → (IsLast piece → ⊥) → Grows all head.now left piece → IfOk result (StepsHead all head.now left fields.new) }
-    ensures few { IfOk result (λ o. o ≡ None → length head.now < MOST_HEAD) }
-    ensures shows { IfOk result (λ o. IfSome o (ShowsEnd head.now fields.new)) }
-    ensures stands { (given : ℕ) → given ≤ MOST_READ → IfOk result (λ o. IfSome o (HeadStands given)) }
+    ensures steps { (all left : List ℕ) (piece : Piece) → (IsLast piece → ⊥) → Grows all head.now left piece → StepsHead all head.now left fields.new result }
+    ensures few { result ≡ None → length head.now < MOST_HEAD }
+    ensures shows { IfSome result (ShowsEnd head.now fields.new) }
+    ensures stands { (given : ℕ) → given ≤ MOST_READ → IfSome result (HeadStands given) }
 {
-    match look(alloc, front(head), fields)? {
-        Sight::Whole(spans) => Ok(Some(HeadEnd::Whole(spans))),
-        Sight::Crowded => Ok(Some(HeadEnd::Crowded)),
-        Sight::Never => Ok(Some(HeadEnd::Never)),
-        Sight::More if head.len() < MOST_HEAD => Ok(None),
-        Sight::More => Ok(Some(HeadEnd::Long)),
+    match look(front(head), fields) {
+        Sight::Whole(spans) => Some(HeadEnd::Whole(spans)),
+        Sight::Crowded => Some(HeadEnd::Crowded),
+        Sight::Never => Some(HeadEnd::Never),
+        Sight::More if head.len() < MOST_HEAD => None,
+        Sight::More => Some(HeadEnd::Long),
     }
 }
 

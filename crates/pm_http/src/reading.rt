@@ -1,13 +1,13 @@
 //! The reading of requests.
-ghost use Rattle.std.specs.Prelude.{◌≡◌, ◌≤◌, ◌+◌, ℕ, List, [], Err, length, map, IfOk};
+ghost use Rattle.std.specs.Prelude.{◌≡◌, ◌≤◌, ◌+◌, ℕ, List, Err, length, map, IfOk, IfErr};
 ghost use Rattle.std.specs.List.{All};
 ghost use Rattle.httparse.specs.Grammar.{RequestHead};
 ghost use Rattle.httparse.specs.Spans.{IsRequestAt, IsHeaderWithin, header_bytes};
-ghost use Rattle.pm_outside.specs.Causes.{Rose};
-ghost use Rattle.pm_outside.specs.Feed.{left_to, KnowsEnd, MOST_READ};
+ghost use Rattle.pm_outside.specs.Causes.{faults_after};
+ghost use Rattle.pm_outside.specs.Feed.{left_to, KnowsEnd, MOST_READ, MOST_AHEAD, ReadsOn};
 ghost use Rattle.pm_http.specs.Head.{body_size, first_of, values_of, IsWithinLimit};
-ghost use Rattle.pm_http.specs.Stream.{MOST_HEAD, StopsAtLimit, MayBeTold, readable, IsNext, IsPlaced, IsSmall, IsOf};
-ghost use Rattle.pm_http.specs.Piece.{IsGathered, IsParsed};
+ghost use Rattle.pm_http.specs.Stream.{MOST_HEAD, StopsAtFault, StopsForMemory, is_read_fault, StopsAtLimit, MayBeTold, readable, IsNext, IsPlaced, IsSmall, IsOf};
+ghost use Rattle.pm_http.specs.Piece.{IsGathered, IsParsed, StopsAfterHead};
 
 use crate::body::{body_room, fill};
 use crate::connection::is_closing;
@@ -22,13 +22,13 @@ use pm_outside::{Feed, Source};
 use std::alloc::{AllocError, Global};
 
 // The room that a head begins with, in bytes; a longer one takes more.
-const USUAL_HEAD: usize = 1024;
+const USUAL_HEAD: usize = 4096;
 
 /// Reads the next request of a stream (RFC 9112): a head of at most 16,384 bytes and 64 fields, and a body of at most
 /// 16,777,216 bytes. `offset` in the answer is that of its first byte, counted in bytes from the first that the feed gave.
-/// `ReadFault` comes where the source failed, `Limit` where as many bytes as a feed takes end inside the request, and
-/// `Memory` for want of it. After an error, a framing refusal or a cut, bytes may have been taken, and the feed is of no
-/// more use.
+/// `ReadFault` comes where the source failed inside it, `Limit` where as many bytes as a feed takes end inside it, and
+/// `Memory` where there is none, and what was taken breaks no rule. After an error, a framing refusal or a cut, bytes may
+/// have been taken, and the feed is of no more use.
 pub fn next_request<S: Source>(
     alloc: Global,
     feed: &mut Feed,
@@ -38,23 +38,61 @@ pub fn next_request<S: Source>(
     ensures next { S.IsTold → IfOk result (λ next. IsNext (left_to feed.old (S.left source.old)) feed.old.given next (left_to feed.new (S.left source.new))) }
     ensures placed { IfOk result (IsPlaced feed.old.given) }
     ensures small { IfOk result IsSmall }
-    ensures given { S.IsTold → feed.new.given + length (left_to feed.new (S.left source.new)) ≡ feed.old.given + length (left_to feed.old (S.left source.old)) }
-    ensures knows_end { S.IsTold → KnowsEnd feed.new (S.left source.new) }
+    ensures reads { ReadsOn S.IsTold feed.old feed.new (S.left source.old) (S.left source.new) }
 
     // The limit comes exactly where it is met, but for the choice that is left open.
     ensures limit { S.IsTold → result ≡ Err HttpError.Limit → StopsAtLimit feed.old.given (left_to feed.old (S.left source.old)) }
     ensures within { S.IsTold → IfOk result (λ next. StopsAtLimit feed.old.given (left_to feed.old (S.left source.old)) → MayBeTold (readable feed.old.given (left_to feed.old (S.left source.old))) next) }
-    ensures failed { result ≡ Err HttpError.ReadFault → Rose (S.faults source.old) (S.faults source.new) }
-    ensures later { S.faults source.old ≤ S.faults source.new }
+
+    // What was taken at a fault, and out of memory.
+    ensures fault { S.IsTold → result ≡ Err HttpError.ReadFault → StopsAtFault (left_to feed.old (S.left source.old)) (left_to feed.new (S.left source.new)) }
+    ensures memory { S.IsTold → result ≡ Err HttpError.Memory → StopsForMemory (left_to feed.old (S.left source.old)) (left_to feed.new (S.left source.new)) }
+    ensures counted { S.faults source.new ≡ faults_after (is_read_fault result) (S.faults source.old) }
 {
     let offset = feed.given();
+    take_nothing(feed, source);
+    read_request(alloc, feed, source, offset)
+}
+
+// Takes no byte: a feed tells at each call that what was taken of it is within its limit.
+fn take_nothing<S: Source>(feed: &mut Feed, source: &mut S)
+    requires { S.IsTold → KnowsEnd feed.old (S.left source.old) }
+    ensures stays { S.IsTold → left_to feed.new (S.left source.new) ≡ left_to feed.old (S.left source.old) }
+    ensures given { S.IsTold → feed.new.given ≡ feed.old.given }
+    ensures reads { ReadsOn S.IsTold feed.old feed.new (S.left source.old) (S.left source.new) }
+    ensures counted { S.faults source.new ≡ S.faults source.old }
+{
+    let _none = feed.take(source, &mut []);
+}
+
+// Reads the next request, where the feed is within its limit.
+fn read_request<S: Source>(
+    alloc: Global,
+    feed: &mut Feed,
+    source: &mut S,
+    offset: u64,
+) -> Result<Next, HttpError>
+    requires within { feed.old.given ≤ MOST_READ }
+    requires ahead { length feed.old.buffered ≤ MOST_AHEAD }
+    requires begins { S.IsTold → offset ≡ feed.old.given }
+    requires knows_end { S.IsTold → KnowsEnd feed.old (S.left source.old) }
+    ensures next { S.IsTold → IfOk result (λ next. IsNext (left_to feed.old (S.left source.old)) offset next (left_to feed.new (S.left source.new))) }
+    ensures placed { IfOk result (IsPlaced offset) }
+    ensures small { IfOk result IsSmall }
+    ensures reads { ReadsOn S.IsTold feed.old feed.new (S.left source.old) (S.left source.new) }
+    ensures limit { S.IsTold → result ≡ Err HttpError.Limit → StopsAtLimit offset (left_to feed.old (S.left source.old)) }
+    ensures within { S.IsTold → IfOk result (λ next. StopsAtLimit offset (left_to feed.old (S.left source.old)) → MayBeTold (readable offset (left_to feed.old (S.left source.old))) next) }
+    ensures fault { S.IsTold → result ≡ Err HttpError.ReadFault → StopsAtFault (left_to feed.old (S.left source.old)) (left_to feed.new (S.left source.new)) }
+    ensures memory { S.IsTold → result ≡ Err HttpError.Memory → StopsForMemory (left_to feed.old (S.left source.old)) (left_to feed.new (S.left source.new)) }
+    ensures counted { S.faults source.new ≡ faults_after (is_read_fault result) (S.faults source.old) }
+{
     let Ok(mut fields) = field_room(alloc) else {
         return Err(HttpError::Memory);
     };
     let Ok(mut head) = Vec::with_capacity(alloc, USUAL_HEAD) else {
         return Err(HttpError::Memory);
     };
-    match read_head(alloc, feed, source, &mut head, &mut fields)? {
+    match read_head(feed, source, &mut head, &mut fields)? {
         HeadEnd::Whole(spans) => { read_rest(alloc, feed, source, &head, &fields, spans, offset) }
         HeadEnd::Crowded | HeadEnd::Long => Ok(Next::Framing {
             code: Code::H2,
@@ -81,16 +119,17 @@ fn read_rest<S: Source>(
     offset: u64,
 ) -> Result<Next, HttpError>
     requires knows_end { S.IsTold → KnowsEnd feed.old (S.left source.old) }
+    requires within { feed.old.given ≤ MOST_READ }
+    requires ahead { length feed.old.buffered ≤ MOST_AHEAD }
     requires parsed { IsParsed head.now fields.now spans }
     ensures next { S.IsTold → (all : List ℕ) → IsGathered all head.now (left_to feed.old (S.left source.old)) fields.now spans → IfOk result (λ next. IsNext all offset next (left_to feed.new (S.left source.new))) }
     ensures placed { IfOk result (IsPlaced offset) }
     ensures small { IfOk result IsSmall }
-    ensures given { S.IsTold → feed.new.given + length (left_to feed.new (S.left source.new)) ≡ feed.old.given + length (left_to feed.old (S.left source.old)) }
-    ensures knows_end { S.IsTold → KnowsEnd feed.new (S.left source.new) }
+    ensures reads { ReadsOn S.IsTold feed.old feed.new (S.left source.old) (S.left source.new) }
     ensures limit { S.IsTold → (all : List ℕ) → IsGathered all head.now (left_to feed.old (S.left source.old)) fields.now spans → feed.old.given + length (left_to feed.old (S.left source.old)) ≡ offset + length all → result ≡ Err HttpError.Limit → StopsAtLimit offset all }
-    ensures within { S.IsTold → (all : List ℕ) → IsGathered all head.now (left_to feed.old (S.left source.old)) fields.now spans → feed.old.given + length (left_to feed.old (S.left source.old)) ≡ offset + length all → feed.old.given ≤ MOST_READ → IfOk result (λ next. StopsAtLimit offset all → MayBeTold (readable offset all) next) }
-    ensures failed { result ≡ Err HttpError.ReadFault → Rose (S.faults source.old) (S.faults source.new) }
-    ensures later { S.faults source.old ≤ S.faults source.new }
+    ensures within { S.IsTold → (all : List ℕ) → IsGathered all head.now (left_to feed.old (S.left source.old)) fields.now spans → feed.old.given + length (left_to feed.old (S.left source.old)) ≡ offset + length all → IfOk result (λ next. StopsAtLimit offset all → MayBeTold (readable offset all) next) }
+    ensures stops { S.IsTold → (all : List ℕ) → IsGathered all head.now (left_to feed.old (S.left source.old)) fields.now spans → IfErr result (StopsAfterHead all (left_to feed.new (S.left source.new))) }
+    ensures counted { S.faults source.new ≡ faults_after (is_read_fault result) (S.faults source.old) }
 {
     match size_by_head(head, fields, spans) {
         BodySize::Refused(code) => Ok(Next::Framing { code, offset }),

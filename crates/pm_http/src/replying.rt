@@ -1,22 +1,26 @@
 //! The writing of replies.
-ghost use Rattle.std.specs.Prelude.{◌≡◌, ◌≢◌, ◌==◌, ◌≤◌, ◌++◌, [], length, if◌then◌else◌, Err, IfOk, OnErr};
-ghost use Rattle.http.specs.StatusCode.{IsStatusCode};
-ghost use Rattle.pm_outside.specs.Causes.{Rose};
-ghost use Rattle.pm_http.specs.Reply.{content_of, refusal_body, head_text, reply_text, Writes};
+ghost use Rattle.std.specs.Prelude.{◌≡◌, ◌≢◌, ◌++◌, ℕ, List, length, codes, unwrap_or, Err};
+ghost use Rattle.std.specs.Result.{is_err};
+ghost use Rattle.http.specs.StatusCode.{reason_phrase, IsStatusCode};
+ghost use Rattle.pm_outside.specs.Causes.{faults_after};
+ghost use Rattle.pm_http.specs.Reply.{content_of, status_line, content_fields, body_fields, allow_field, moment_field, close_field, head_text, has_body, body_text, reply_text, Writes};
+ghost use Rattle.pm_http.specs.Outgoing.{IsOnWay};
 
-use crate::pushing::{
-    push_allow, push_close, push_content_fields, push_moment, push_refusal, push_status,
-};
+use crate::outgoing::Outgoing;
+use crate::refusal::refusal;
 use crate::{Reply, ReplyError};
+use http::StatusCode;
+use itoa::Buffer;
 use pm_base::Code;
 use pm_outside::Sink;
-use std::alloc::{AllocError, Global};
+use std::alloc::Global;
 
 /// Writes a reply: the status with its phrase, Content-Type and Content-Length, with H6 the methods in Allow, the moment in
 /// Pm-Moment, where it closes `Connection: close`, and the body. A 204 has neither body nor fields on it. `moment` is in
-/// seconds since 1970-01-01 UTC. The body isn't copied.
+/// seconds since 1970-01-01 UTC. No reply takes memory: the text goes through 512 bytes on the stack, and what they don't
+/// hold is put by itself.
 pub fn write_reply<K: Sink>(
-    alloc: Global,
+    _alloc: Global,
     sink: &mut K,
     reply: &Reply,
     moment: u64,
@@ -24,23 +28,20 @@ pub fn write_reply<K: Sink>(
 ) -> Result<(), ReplyError>
     requires { IsStatusCode reply.now.status }
     ensures told { K.IsTold → Writes (K.written sink.old) (K.written sink.new) (reply_text reply.now moment close) result }
-    ensures fault { result ≡ Err ReplyError.WriteFault → Rose (K.faults sink.old) (K.faults sink.new) }
-    ensures later { K.faults sink.old ≤ K.faults sink.new }
+    ensures no_memory { result ≢ Err ReplyError.Memory }
+    ensures counted { K.faults sink.new ≡ faults_after (is_err result) (K.faults sink.old) }
 {
     match reply.code {
         Some(code) => {
-            let Ok(body) = refusal(alloc, code, reply.line) else {
-                return Err(ReplyError::Memory);
-            };
-            write_with(alloc, sink, reply, body.as_slice(), moment, close)
+            let body = refusal(code, reply.line);
+            write_with(sink, reply, body.as_slice(), moment, close)
         }
-        None => write_with(alloc, sink, reply, reply.body.as_bytes(), moment, close),
+        None => write_with(sink, reply, reply.body.as_bytes(), moment, close),
     }
 }
 
 // Writes a reply with this content.
 fn write_with<K: Sink>(
-    alloc: Global,
     sink: &mut K,
     reply: &Reply,
     content: &[u8],
@@ -50,79 +51,122 @@ fn write_with<K: Sink>(
     requires status { IsStatusCode reply.now.status }
     requires content { content.now ≡ content_of reply.now }
     ensures told { K.IsTold → Writes (K.written sink.old) (K.written sink.new) (reply_text reply.now moment close) result }
-    ensures fault { result ≡ Err ReplyError.WriteFault → Rose (K.faults sink.old) (K.faults sink.new) }
-    ensures later { K.faults sink.old ≤ K.faults sink.new }
+    ensures no_memory { result ≢ Err ReplyError.Memory }
+    ensures counted { K.faults sink.new ≡ faults_after (is_err result) (K.faults sink.old) }
 {
-    let Ok(head) = head(alloc, reply, content.len(), moment, close) else {
-        return Err(ReplyError::Memory);
-    };
-    put_both(sink, head.as_slice(), body_of(reply.status, content))
-}
-
-// The body that is written.
-fn body_of(status: u16, content: &[u8]) -> &[u8]
-    ensures { result.now ≡ (if status == 204 then [] else content.now) }
-{
-    if status == 204 {
-        &content[..0]
-    } else {
-        content
-    }
+    let mut out = Outgoing::new();
+    pass_head(&mut out, sink, reply, content.len(), moment, close);
+    pass_body(&mut out, sink, reply, content);
+    out.finish(sink)
 }
 
 // The lines before the body.
-fn head(
-    alloc: Global,
+fn pass_head<K: Sink>(
+    out: &mut Outgoing,
+    sink: &mut K,
     reply: &Reply,
     size: usize,
     moment: u64,
     close: bool,
-) -> Result<Vec<u8>, AllocError>
+)
     requires status { IsStatusCode reply.now.status }
     requires size { size ≡ length (content_of reply.now) }
-    ensures { IfOk result (λ head. head.items ≡ head_text reply.now moment close) }
+    ensures on { K.IsTold → (start text : List ℕ) → IsOnWay start text (K.written sink.old) out.old → IsOnWay start (text ++ head_text reply.now moment close) (K.written sink.new) out.new }
+    ensures counted { (faults : ℕ) → K.faults sink.old ≡ faults_after out.old.failed faults → K.faults sink.new ≡ faults_after out.new.failed faults }
 {
-    let mut head = Vec::new(alloc);
-    push_status(&mut head, reply.status)?;
-    push_content_fields(&mut head, reply.status, size)?;
-    push_allow(&mut head, reply.code, reply.allow.as_bytes())?;
-    push_moment(&mut head, moment)?;
-    push_close(&mut head, close)?;
-    head.extend_from_slice(b"\r\n")?;
-    Ok(head)
+    pass_status(out, sink, reply.status);
+    pass_content_fields(out, sink, reply.status, size);
+    pass_allow(out, sink, reply.code, reply.allow.as_bytes());
+    pass_moment(out, sink, moment);
+    pass_close(out, sink, close);
+    out.pass(sink, b"\r\n");
 }
 
-// The body of a refusal.
-fn refusal(alloc: Global, code: Code, line: u32) -> Result<Vec<u8>, AllocError>
-    ensures { IfOk result (λ body. body.items ≡ refusal_body code line) }
+// The status line.
+fn pass_status<K: Sink>(out: &mut Outgoing, sink: &mut K, status: u16)
+    requires { IsStatusCode status }
+    ensures on { K.IsTold → (start text : List ℕ) → IsOnWay start text (K.written sink.old) out.old → IsOnWay start (text ++ status_line status) (K.written sink.new) out.new }
+    ensures counted { (faults : ℕ) → K.faults sink.old ≡ faults_after out.old.failed faults → K.faults sink.new ≡ faults_after out.new.failed faults }
 {
-    let mut body = Vec::new(alloc);
-    push_refusal(&mut body, code, line)?;
-    Ok(body)
+    let mut digits = Buffer::new();
+    out.pass(sink, b"HTTP/1.1 ");
+    out.pass(sink, digits.format(status).as_bytes());
+    out.pass_line(sink, b" ", phrase_of(status).as_bytes());
 }
 
-fn put_both<K: Sink>(sink: &mut K, head: &[u8], body: &[u8]) -> Result<(), ReplyError>
-    ensures told { K.IsTold → Writes (K.written sink.old) (K.written sink.new) (head.now ++ body.now) result }
-    ensures fault { OnErr result (Rose (K.faults sink.old) (K.faults sink.new)) }
-    ensures later { K.faults sink.old ≤ K.faults sink.new }
+// The fields on the body.
+fn pass_content_fields<K: Sink>(out: &mut Outgoing, sink: &mut K, status: u16, size: usize)
+    ensures on { K.IsTold → (start text : List ℕ) → IsOnWay start text (K.written sink.old) out.old → IsOnWay start (text ++ content_fields status size) (K.written sink.new) out.new }
+    ensures counted { (faults : ℕ) → K.faults sink.old ≡ faults_after out.old.failed faults → K.faults sink.new ≡ faults_after out.new.failed faults }
 {
-    match put_all(sink, head) {
-        Ok(()) => put_all(sink, body),
-        Err(fault) => Err(fault),
+    if status == 204 {
+        return;
+    }
+    pass_body_fields(out, sink, size);
+}
+
+fn pass_body_fields<K: Sink>(out: &mut Outgoing, sink: &mut K, size: usize)
+    ensures on { K.IsTold → (start text : List ℕ) → IsOnWay start text (K.written sink.old) out.old → IsOnWay start (text ++ body_fields size) (K.written sink.new) out.new }
+    ensures counted { (faults : ℕ) → K.faults sink.old ≡ faults_after out.old.failed faults → K.faults sink.new ≡ faults_after out.new.failed faults }
+{
+    let mut digits = Buffer::new();
+    let name = b"Content-Type: application/json\r\nContent-Length: ";
+    out.pass_line(sink, name, digits.format(size).as_bytes());
+}
+
+// The Allow field, where the code has one.
+fn pass_allow<K: Sink>(out: &mut Outgoing, sink: &mut K, code: Option<Code>, allow: &[u8])
+    ensures on { K.IsTold → (start text : List ℕ) → IsOnWay start text (K.written sink.old) out.old → IsOnWay start (text ++ allow_field code allow.now) (K.written sink.new) out.new }
+    ensures counted { (faults : ℕ) → K.faults sink.old ≡ faults_after out.old.failed faults → K.faults sink.new ≡ faults_after out.new.failed faults }
+{
+    if let Some(Code::H6) = code {
+        out.pass_line(sink, b"Allow: ", allow);
     }
 }
 
-fn put_all<K: Sink>(sink: &mut K, bytes: &[u8]) -> Result<(), ReplyError>
-    ensures told { K.IsTold → Writes (K.written sink.old) (K.written sink.new) bytes.now result }
-    ensures fault { OnErr result (Rose (K.faults sink.old) (K.faults sink.new)) }
-    ensures known { result ≢ Err ReplyError.Memory }
-    ensures later { K.faults sink.old ≤ K.faults sink.new }
+// The moment's field.
+fn pass_moment<K: Sink>(out: &mut Outgoing, sink: &mut K, moment: u64)
+    ensures on { K.IsTold → (start text : List ℕ) → IsOnWay start text (K.written sink.old) out.old → IsOnWay start (text ++ moment_field moment) (K.written sink.new) out.new }
+    ensures counted { (faults : ℕ) → K.faults sink.old ≡ faults_after out.old.failed faults → K.faults sink.new ≡ faults_after out.new.failed faults }
 {
-    if bytes.is_empty() {
-        return Ok(());
+    let mut digits = Buffer::new();
+    out.pass_line(sink, b"Pm-Moment: ", digits.format(moment).as_bytes());
+}
+
+// The field that closes, where the connection is closed.
+fn pass_close<K: Sink>(out: &mut Outgoing, sink: &mut K, close: bool)
+    ensures on { K.IsTold → (start text : List ℕ) → IsOnWay start text (K.written sink.old) out.old → IsOnWay start (text ++ close_field close) (K.written sink.new) out.new }
+    ensures counted { (faults : ℕ) → K.faults sink.old ≡ faults_after out.old.failed faults → K.faults sink.new ≡ faults_after out.new.failed faults }
+{
+    if close {
+        out.pass(sink, b"Connection: close\r\n");
     }
-    match sink.put(bytes) {
-        Ok(()) => Ok(()),
-        Err(_) => Err(ReplyError::WriteFault),
+}
+
+// The body, where it is written.
+fn pass_body<K: Sink>(out: &mut Outgoing, sink: &mut K, reply: &Reply, content: &[u8])
+    requires { content.now ≡ content_of reply.now }
+    ensures on { K.IsTold → (start text : List ℕ) → IsOnWay start text (K.written sink.old) out.old → IsOnWay start (text ++ body_text reply.now) (K.written sink.new) out.new }
+    ensures counted { (faults : ℕ) → K.faults sink.old ≡ faults_after out.old.failed faults → K.faults sink.new ≡ faults_after out.new.failed faults }
+{
+    if is_body_written(reply) {
+        out.pass(sink, content);
+    }
+}
+
+fn is_body_written(reply: &Reply) -> bool
+    ensures { result ≡ has_body reply.now }
+{
+    reply.status != 204 && !reply.head
+}
+
+// The phrase of a status.
+fn phrase_of(status: u16) -> &'static str
+    requires { IsStatusCode status }
+    ensures { result.now ≡ unwrap_or (reason_phrase status) (codes "") }
+{
+    match StatusCode::from_u16(status) {
+        Ok(status) => status.canonical_reason().unwrap_or(""),
+        Err(_) => "",
     }
 }

@@ -3,14 +3,38 @@ ghost use Rattle.std.specs.Prelude.{◌≡◌, None, IfOk, MatchOption, map};
 ghost use Rattle.pm_http.specs.Resource.{IsPathOf, table, shape};
 
 use crate::kind::Kind;
-use matchit::{InsertError, Router};
-use std::alloc::Global;
+use matchit::InsertError;
+use std::alloc::{AllocError, Global};
+
+/// The table of paths. It is made once; looking a path up takes no memory.
+#[derive(Drop)]
+pub struct Router {
+    kinds: matchit::Router<Kind>,
+    ghost complete: { map shape kinds ≡ table },
+}
+
+impl Router {
+    /// The router of all resources.
+    pub fn new(alloc: Global) -> Result<Router, AllocError> {
+        match routes(alloc) {
+            Ok(kinds) => Ok(Router { kinds }),
+            Err(_) => Err(AllocError),
+        }
+    }
+
+    // The kind of the resource that a path names.
+    pub(crate) fn kind_of(&self, path: &str) -> Option<Kind>
+        ensures { MatchOption result ((k : Kind) → ¬ IsPathOf k path.now) (λ k. IsPathOf k path.now) }
+    {
+        find(&self.kinds, path)
+    }
+}
 
 // The routes.
-fn routes(alloc: Global) -> Result<Router<Kind>, InsertError>
+fn routes(alloc: Global) -> Result<matchit::Router<Kind>, InsertError>
     ensures { IfOk result (λ router. map shape router ≡ table) }
 {
-    let mut router = Router::new(alloc);
+    let mut router = matchit::Router::new(alloc);
     router.insert("/jobs/{id}", Kind::Job)?;
     router.insert("/monitors/{id}", Kind::Monitor)?;
     router.insert("/subscriptions/{id}", Kind::Subscription)?;
@@ -21,7 +45,7 @@ fn routes(alloc: Global) -> Result<Router<Kind>, InsertError>
 }
 
 // The kind of the resource that a path names, by these routes.
-fn find(router: &Router<Kind>, path: &str) -> Option<Kind>
+fn find(router: &matchit::Router<Kind>, path: &str) -> Option<Kind>
     requires { map shape router.now ≡ table }
     ensures { MatchOption result ((k : Kind) → ¬ IsPathOf k path.now) (λ k. IsPathOf k path.now) }
 {
@@ -29,12 +53,4 @@ fn find(router: &Router<Kind>, path: &str) -> Option<Kind>
         Ok(found) => Some(*found.value),
         Err(_) => None,
     }
-}
-
-/// The kind of the resource that a path names. The routes are made within the call.
-pub fn kind_of(alloc: Global, path: &str) -> Result<Option<Kind>, InsertError>
-    ensures { IfOk result (λ o. MatchOption o ((k : Kind) → ¬ IsPathOf k path.now) (λ k. IsPathOf k path.now)) }
-{
-    let router = routes(alloc)?;
-    Ok(find(&router, path))
 }

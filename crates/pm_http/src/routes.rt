@@ -2,21 +2,21 @@
 
 use pm_base::Text;
 
-/// What a request asks for. An id or a name holds the bytes in its place of the path, and `query` those behind the first
+/// What a request asks for. An id or a name holds the bytes in its place of the path, and `query` those after the first
 /// `?` of the target; neither is decoded.
 #[derive(Debug, Drop)]
 pub enum Route {
-    GetJob { id: Text },
-    PutJob { id: Text },
-    PatchJob { id: Text },
-    DeleteJob { id: Text },
-    GetMonitor { id: Text },
-    PutMonitor { id: Text },
-    PatchMonitor { id: Text },
-    DeleteMonitor { id: Text },
-    PutSubscription { id: Text },
-    DeleteSubscription { id: Text },
-    GetFiles { query: Text },
-    GetFile { name: Text },
-    PostEvents,
+    JobPut { id: Text },
+    JobPatch { id: Text },
+    JobDelete { id: Text },
+    JobGet { id: Text },
+    MonitorPut { id: Text },
+    MonitorPatch { id: Text },
+    MonitorDelete { id: Text },
+    MonitorGet { id: Text },
+    SubscriptionPut { id: Text },
+    SubscriptionDelete { id: Text },
+    Files { query: Text },
+    File { name: Text },
+    Events,
 }

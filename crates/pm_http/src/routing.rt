@@ -1,5 +1,5 @@
 //! Which request takes which route.
-ghost use Rattle.std.specs.Prelude.{◌≡◌, ◌≤◌, ◌++◌, ℕ, List, length, Ok, Err, IfOk, IfErr, MatchOption, IsUtf8};
+ghost use Rattle.std.specs.Prelude.{◌≡◌, ◌≢◌, ◌≤◌, ◌++◌, ℕ, List, length, Ok, Err, MatchOption, IsUtf8};
 ghost use Rattle.pm_http.specs.Resource.{IsPathOf, front_of, IsPartOf};
 ghost use Rattle.pm_http.specs.Target.{path_of, query_of};
 ghost use Rattle.pm_http.specs.Route.{IsRouted, IsResource, IsTakenBy, IsRefusal, route_at};
@@ -7,34 +7,41 @@ ghost use Rattle.pm_http.specs.Route.{IsRouted, IsResource, IsTakenBy, IsRefusal
 use crate::cutting::path_and_query;
 use crate::kind::Kind;
 use crate::method::{Method, method_of};
-use crate::resource::kind_of;
-use crate::{Request, Route, RouteError};
+use crate::{Request, Route, RouteError, Router};
 use pm_base::Text;
 use std::alloc::Global;
 
-/// The route of a request. A path that is no UTF-8 text is no resource's.
+/// The route of a request, by a router that is made within the call. A path that is no UTF-8 text is no resource's.
 pub fn route(alloc: Global, request: &Request) -> Result<Route, RouteError>
-    ensures { IsRouted request.now.method request.now.target result }
+    ensures { result ≢ Err RouteError.Memory → IsRouted request.now.method request.now.target result }
 {
-    let (path, query) = path_and_query(request.target.as_bytes());
-    match resource_of(alloc, path)? {
-        Some(kind) => route_on(alloc, kind, request.method.as_bytes(), path, query),
-        None => Err(RouteError::H5),
+    let Ok(router) = Router::new(alloc) else {
+        return Err(RouteError::Memory);
+    };
+    router.route(alloc, request)
+}
+
+impl Router {
+    /// The route of a request. A path that is no UTF-8 text is no resource's.
+    pub fn route(&self, alloc: Global, request: &Request) -> Result<Route, RouteError>
+        ensures { IsRouted request.now.method request.now.target result }
+    {
+        let (path, query) = path_and_query(request.target.as_bytes());
+        match resource_of(self, path) {
+            Some(kind) => route_on(alloc, kind, request.method.as_bytes(), path, query),
+            None => Err(RouteError::H5),
+        }
     }
 }
 
 // The kind of the resource that a path names.
-fn resource_of(alloc: Global, path: &[u8]) -> Result<Option<Kind>, RouteError>
-    ensures kind { IfOk result (λ o. MatchOption o ((k : Kind) → ¬ IsResource k path.now) (λ k. IsResource k path.now)) }
-    ensures memory { IfErr result (λ e. e ≡ RouteError.Memory) }
+fn resource_of(router: &Router, path: &[u8]) -> Option<Kind>
+    ensures { MatchOption result ((k : Kind) → ¬ IsResource k path.now) (λ k. IsResource k path.now) }
 {
-    let Ok(text) = str::from_utf8(path) else {
-        return Ok(None);
-    };
-    let Ok(kind) = kind_of(alloc, text) else {
-        return Err(RouteError::Memory);
-    };
-    Ok(kind)
+    match str::from_utf8(path) {
+        Ok(text) => router.kind_of(text),
+        Err(_) => None,
+    }
 }
 
 // The route on a resource of this kind.
@@ -88,9 +95,9 @@ fn route_by(kind: Kind, method: Method, part: Text, query: Text) -> Option<Route
         Kind::Job => job_route(method, part),
         Kind::Monitor => monitor_route(method, part),
         Kind::Subscription => subscription_route(method, part),
-        Kind::Files if method == Method::Get => Some(Route::GetFiles { query }),
-        Kind::File if method == Method::Get => Some(Route::GetFile { name: part }),
-        Kind::Events if method == Method::Post => Some(Route::PostEvents),
+        Kind::Files if method == Method::Get => Some(Route::Files { query }),
+        Kind::File if method == Method::Get => Some(Route::File { name: part }),
+        Kind::Events if method == Method::Post => Some(Route::Events),
         Kind::Files | Kind::File | Kind::Events => None,
     }
 }
@@ -99,10 +106,10 @@ fn job_route(method: Method, id: Text) -> Option<Route>
     ensures { (query : List ℕ) → result ≡ route_at Kind.Job method id query }
 {
     match method {
-        Method::Get => Some(Route::GetJob { id }),
-        Method::Put => Some(Route::PutJob { id }),
-        Method::Patch => Some(Route::PatchJob { id }),
-        Method::Delete => Some(Route::DeleteJob { id }),
+        Method::Get => Some(Route::JobGet { id }),
+        Method::Put => Some(Route::JobPut { id }),
+        Method::Patch => Some(Route::JobPatch { id }),
+        Method::Delete => Some(Route::JobDelete { id }),
         Method::Post => None,
     }
 }
@@ -111,10 +118,10 @@ fn monitor_route(method: Method, id: Text) -> Option<Route>
     ensures { (query : List ℕ) → result ≡ route_at Kind.Monitor method id query }
 {
     match method {
-        Method::Get => Some(Route::GetMonitor { id }),
-        Method::Put => Some(Route::PutMonitor { id }),
-        Method::Patch => Some(Route::PatchMonitor { id }),
-        Method::Delete => Some(Route::DeleteMonitor { id }),
+        Method::Get => Some(Route::MonitorGet { id }),
+        Method::Put => Some(Route::MonitorPut { id }),
+        Method::Patch => Some(Route::MonitorPatch { id }),
+        Method::Delete => Some(Route::MonitorDelete { id }),
         Method::Post => None,
     }
 }
@@ -123,13 +130,13 @@ fn subscription_route(method: Method, id: Text) -> Option<Route>
     ensures { (query : List ℕ) → result ≡ route_at Kind.Subscription method id query }
 {
     match method {
-        Method::Put => Some(Route::PutSubscription { id }),
-        Method::Delete => Some(Route::DeleteSubscription { id }),
+        Method::Put => Some(Route::SubscriptionPut { id }),
+        Method::Delete => Some(Route::SubscriptionDelete { id }),
         _ => None,
     }
 }
 
-// The refusal of a method, or want of memory.
+// The refusal of a method, or out of memory.
 fn not_taken(alloc: Global, kind: Kind) -> RouteError
     ensures { IsRefusal kind result }
 {

@@ -30,38 +30,34 @@ const ALL_FIELDS: usize = 8192;
 pub fn field_room(alloc: Global) -> Result<Vec<HeaderSpan>, AllocError>
     ensures { IfOk result (λ room. length room.items ≡ 64) }
 {
-    room(alloc, MOST_FIELDS)
-}
-
-fn room(alloc: Global, count: usize) -> Result<Vec<HeaderSpan>, AllocError>
-    ensures { IfOk result (λ room. length room.items ≡ count) }
-{
-    vec![in alloc; EMPTY_HEADER_SPAN; count]
+    vec![in alloc; EMPTY_HEADER_SPAN; MOST_FIELDS]
 }
 
 /// What some bytes show, with the fields of the head in `fields`.
-pub fn look(alloc: Global, bytes: &[u8], fields: &mut [HeaderSpan]) -> Result<Sight, AllocError>
+pub fn look(bytes: &[u8], fields: &mut [HeaderSpan]) -> Sight
     requires room { length fields.old ≡ 64 }
     requires few { length bytes.now ≤ MOST_HEAD }
-    ensures { IfOk result (IsSight bytes.now fields.new) }
+    ensures { IsSight bytes.now fields.new result }
 {
     match parse_request(bytes, fields) {
-        Ok(Status::Complete(spans)) => Ok(Sight::Whole(spans)),
-        Ok(Status::Partial) => Ok(Sight::More),
-        Err(Error::TooManyHeaders) => look_crowded(alloc, bytes),
-        Err(_) => Ok(Sight::Never),
+        Ok(Status::Complete(spans)) => Sight::Whole(spans),
+        Ok(Status::Partial) => Sight::More,
+        Err(Error::TooManyHeaders) => look_crowded::<ALL_FIELDS>(bytes),
+        Err(_) => Sight::Never,
     }
 }
 
-// What some bytes show whose every head has more than 64 fields.
+// What some bytes show whose every head has more than 64 fields. The room is on the stack, so no memory is taken.
 #[cold]
-fn look_crowded(alloc: Global, bytes: &[u8]) -> Result<Sight, AllocError>
+#[inline(never)]
+fn look_crowded<const N: usize>(bytes: &[u8]) -> Sight
+    requires room { N ≡ 8192 }
     requires few { length bytes.now ≤ MOST_HEAD }
     requires crowded { RequestOverflows 64 bytes.now }
-    ensures { IfOk result (IsCrowded bytes.now) }
+    ensures { IsCrowded bytes.now result }
 {
-    let mut fields = room(alloc, ALL_FIELDS)?;
-    Ok(look_with(bytes, &mut fields))
+    let mut fields = [EMPTY_HEADER_SPAN; N];
+    look_with(bytes, &mut fields)
 }
 
 // The same, with room for all fields.

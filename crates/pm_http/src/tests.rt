@@ -23,13 +23,13 @@ fn request(alloc: Global, method: &[u8], target: &[u8]) -> Result<Request, Alloc
 fn a_route_holds_the_part_and_the_query_as_they_stand(rt: HostRuntime) -> Result<(), Fail> {
     let job = route(rt.alloc(), &request(rt.alloc(), b"PUT", b"/jobs/a%61?b")?);
     let job = match &job {
-        Ok(Route::PutJob { id }) => id.as_bytes(),
+        Ok(Route::JobPut { id }) => id.as_bytes(),
         _ => b"",
     };
     assert_eq!(rt; job, b"a%61".as_slice());
     let files = route(rt.alloc(), &request(rt.alloc(), b"GET", b"/files?a=?")?);
     let query = match &files {
-        Ok(Route::GetFiles { query }) => query.as_bytes(),
+        Ok(Route::Files { query }) => query.as_bytes(),
         _ => b"",
     };
     assert_eq!(rt; query, b"a=?".as_slice());
@@ -79,6 +79,7 @@ fn is_text(
     alloc: Global,
     status: u16,
     code: Option<Code>,
+    head: bool,
     close: bool,
     text: &[u8],
 ) -> Result<bool, AllocError>
@@ -90,6 +91,7 @@ fn is_text(
         line: 65_536,
         allow: Text::from_slice(alloc, b"GET")?,
         body: Blob::from_slice(alloc, b"{}")?,
+        head,
     };
     let mut sink = MemSink::new(alloc, 512, &[])?;
     let answer = write_reply(alloc, &mut sink, &reply, 12, close);
@@ -101,32 +103,38 @@ fn a_reply_has_its_fields_in_order(rt: HostRuntime) -> Result<(), Fail> {
     let alloc = rt.alloc();
     let created =
         b"HTTP/1.1 201 Created\r\nContent-Type: application/json\r\nContent-Length: 2\r\nPm-Moment: 12\r\n\r\n{}";
-    assert!(rt; is_text(alloc, 201, None, false, created)?);
+    assert!(rt; is_text(alloc, 201, None, false, false, created)?);
     let deleted = b"HTTP/1.1 204 No Content\r\nPm-Moment: 12\r\nConnection: close\r\n\r\n";
-    assert!(rt; is_text(alloc, 204, None, true, deleted)?);
+    assert!(rt; is_text(alloc, 204, None, false, true, deleted)?);
     let refused =
         b"HTTP/1.1 405 Method Not Allowed\r\nContent-Type: application/json\r\nContent-Length: 13\r\nAllow: GET\r\nPm-Moment: 12\r\n\r\n{\"code\":\"H6\"}";
-    assert!(rt; is_text(alloc, 405, Some(Code::H6), false, refused)?);
+    assert!(rt; is_text(alloc, 405, Some(Code::H6), false, false, refused)?);
     let faulty =
         b"HTTP/1.1 422 Unprocessable Entity\r\nContent-Type: application/json\r\nContent-Length: 26\r\nPm-Moment: 12\r\n\r\n{\"code\":\"E1\",\"line\":65536}";
-    assert!(rt; is_text(alloc, 422, Some(Code::E1), false, faulty)?);
+    let headed =
+        b"HTTP/1.1 405 Method Not Allowed\r\nContent-Type: application/json\r\nContent-Length: 13\r\nAllow: GET\r\nPm-Moment: 12\r\n\r\n";
+    assert!(rt; is_text(alloc, 405, Some(Code::H6), true, false, headed)?);
+    assert!(rt; is_text(alloc, 422, Some(Code::E1), false, false, faulty)?);
     Ok(())
 }
 
 #[test]
-fn a_fault_of_the_sink_leaves_a_front_of_the_reply(rt: HostRuntime) -> Result<(), Fail> {
+fn a_fault_of_the_sink_leaves_a_prefix_of_the_reply(rt: HostRuntime) -> Result<(), Fail> {
+    let mut body = Vec::new(rt.alloc());
+    body.resize(600, b'x')?;
     let reply = Reply {
-        status: 503,
-        code: Some(Code::MEM),
+        status: 200,
+        code: None,
         line: 0,
         allow: Text::new(rt.alloc()),
-        body: Blob::new(rt.alloc()),
+        body: Blob::from_vec(body),
+        head: false,
     };
-    let mut sink = MemSink::new(rt.alloc(), 512, &[2])?;
+    let mut sink = MemSink::new(rt.alloc(), 1024, &[2])?;
     let answer = write_reply(rt.alloc(), &mut sink, &reply, 0, false);
     assert_eq!(rt; answer, Err(ReplyError::WriteFault));
     let head =
-        b"HTTP/1.1 503 Service Unavailable\r\nContent-Type: application/json\r\nContent-Length: 14\r\nPm-Moment: 0\r\n\r\n";
+        b"HTTP/1.1 200 OK\r\nContent-Type: application/json\r\nContent-Length: 600\r\nPm-Moment: 0\r\n\r\n";
     assert_eq!(rt; sink.written(), head.as_slice());
     Ok(())
 }

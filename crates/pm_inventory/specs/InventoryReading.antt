@@ -1,5 +1,5 @@
 -- The lines of an inventory up to its `end`, and the first line that is refused (this project's own).
-use Rattle.std.specs.Prelude.{◌≡◌, ◌≢◌, ◌⊎◌, ◌+◌, ◌<◌, ◌≤◌, ◌++◌, ℕ, List, [], ◌∷◌, length, Result, Ok, Err}
+use Rattle.std.specs.Prelude.{◌≡◌, ◌≢◌, ◌⊎◌, ◌+◌, ◌<◌, ◌≤◌, ◌++◌, ℕ, Bool, true, false, List, [], ◌∷◌, length, Result, Ok, Err}
 use Rattle.pm_base.specs.Lines.{MOST_LINE, lines_of}
 use Rattle.pm_base.specs.declared.code.Code.{Code}
 use Rattle.pm_base.specs.declared.code.Code.TheVariants.{I1, I2, M5, N10}
@@ -129,3 +129,11 @@ EndsAt state number (Err error.Memory) = (code : Code) → 1 < number → ¬ Ref
 abbrev pub stop_error : ℕ → LineError → InventoryError
 stop_error number (stop.Refused code) = error.Refused number code
 stop_error number stop.Memory = error.Memory
+
+-- The answer is that the source failed.
+abbrev pub is_read_failed : Result ReadInventory InventoryError → Bool
+is_read_failed (Ok r) = false
+is_read_failed (Err error.Failed) = true
+is_read_failed (Err (error.Refused number code)) = false
+is_read_failed (Err error.Limit) = false
+is_read_failed (Err error.Memory) = false

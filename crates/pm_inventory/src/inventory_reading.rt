@@ -5,11 +5,11 @@
 //!     measure NAME CLASS DER REDUCE N
 //!     end
 ghost use Rattle.std.specs.Prelude.{◌≡◌, ◌+◌, ◌-◌, ◌≤◌, ◌<◌, ◌↔◌, length, take, IsTrue, IfOk, Err};
-ghost use Rattle.pm_outside.specs.Causes.{Rose};
+ghost use Rattle.pm_outside.specs.Causes.{faults_after};
 ghost use Rattle.pm_base.specs.Lines.{HasNoLine};
-ghost use Rattle.pm_outside.specs.Feed.{left_to, KnowsEnd, MOST_READ};
+ghost use Rattle.pm_outside.specs.Feed.{left_to, KnowsEnd, MOST_READ, ReadsOn};
 ghost use Rattle.pm_inventory.specs.Inventory.{InventoryState, end_line};
-ghost use Rattle.pm_inventory.specs.InventoryReading.{ReadsInventory, EndsAt, stop_error};
+ghost use Rattle.pm_inventory.specs.InventoryReading.{ReadsInventory, EndsAt, stop_error, is_read_failed};
 
 use crate::inventory::{InvError, Inventory};
 use crate::inventory_line::{LineError, take_line};
@@ -60,13 +60,11 @@ pub fn read_inventory<S: Source>(
 ) -> Result<ReadInventory, InventoryError>
     requires { S.IsTold → KnowsEnd feed.old (S.left source.old) }
     ensures read { S.IsTold → ReadsInventory (left_to feed.old (S.left source.old)) (left_to feed.new (S.left source.new)) result }
-    ensures given { S.IsTold → feed.new.given + length (left_to feed.new (S.left source.new)) ≡ feed.old.given + length (left_to feed.old (S.left source.old)) }
-    ensures knows_end { S.IsTold → KnowsEnd feed.new (S.left source.new) }
+    ensures reads { ReadsOn S.IsTold feed.old feed.new (S.left source.old) (S.left source.new) }
     ensures limit { S.IsTold → result ≡ Err InventoryError.Limit → let left = left_to feed.new (S.left source.new) in (feed.new.given ≤ MOST_READ) × (MOST_READ ≤ feed.new.given + length left) × HasNoLine (take (MOST_READ - feed.new.given) left) }
     ensures few { IfOk result (λ r. r.lines ≤ MOST_READ + 1) }
     ensures open_line { result ≡ Err InventoryError.Failed → HasNoLine feed.new.buffered }
-    ensures failed { result ≡ Err InventoryError.Failed → Rose (S.faults source.old) (S.faults source.new) }
-    ensures later { S.faults source.old ≤ S.faults source.new }
+    ensures counted { S.faults source.new ≡ faults_after (is_read_failed result) (S.faults source.old) }
 {
     let mut tree = Tree::new(alloc);
     let mut catalogue = Catalogue::new(alloc);

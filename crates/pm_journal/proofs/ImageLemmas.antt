@@ -4,13 +4,13 @@ use Rattle.std.proofs.lemmas.List.{ext_get_or, get_or-take, get_or-set_same, get
 use Rattle.std.proofs.lemmas.Bool.{cases_eq}
 use Rattle.pm_disk.specs.Area.{AreaState, IsImage, IsOutside, IsWrite, IsCut, IsSync, clean}
 
--- Each range begins at this offset or behind it.
+-- Each range begins at this offset or after it.
 abbrev pub AllFrom : ℕ → List (ℕ × ℕ) → Type 0
 AllFrom at [] = Unit {0}
 AllFrom at (range ∷ ranges) = (at ≤ range.0) × AllFrom at ranges
 
--- Whatever was written or cut since the last sync stands behind these bytes.
-pub record IsBehind (kept : List ℕ) (area : AreaState) : Type 0 where
+-- Whatever was written or cut since the last sync comes after these bytes.
+pub record IsAfter (kept : List ℕ) (area : AreaState) : Type 0 where
   pub synced : take (length kept) area.synced ≡ kept
   pub least : length kept ≤ area.least
   pub written : AllFrom (length kept) area.written
@@ -22,26 +22,28 @@ clean_image bytes image is = ext_get_or 0 image bytes (omega (arith, is.no_short
 pub only_image : (bytes image : List ℕ) (area : AreaState) → area ≡ clean bytes → IsImage area image → image ≡ bytes
 only_image bytes image area is image_is = clean_image bytes image (subst (λ (a : AreaState). IsImage a image) is image_is)
 
-pub behind_clean : (kept seen : List ℕ) (area : AreaState) → area ≡ clean seen → take (length kept) seen ≡ kept → IsBehind kept area
-behind_clean kept seen area is begins =
+pub after_clean : (kept seen : List ℕ) (area : AreaState) → area ≡ clean seen → take (length kept) seen ≡ kept → IsAfter kept area
+after_clean kept seen area is begins =
     let least : length kept ≤ length seen = omega (arith, ap length begins, length-take (length kept) seen) in
-    subst (λ (a : AreaState). IsBehind kept a) (sym is) (record { synced = begins; least = least; written = tt })
+    subst (λ (a : AreaState). IsAfter kept a) (sym is) (record { synced = begins; least = least; written = tt })
 
-pub behind_write : {E : Type 0} (kept : List ℕ) (at : ℕ) (bytes : List ℕ) (result : Result Unit E) (old new : AreaState) → IsBehind kept old → length kept ≤ at → IsWrite at bytes result old new → IsBehind kept new
-behind_write kept at bytes result old new behind le write = record {
-  synced = ap (λ (l : List ℕ). take (length kept) l) write.synced ∙ behind.synced;
-  least = omega (arith, behind.least, write.least);
+pub after_write : {E : Type 0} (kept : List ℕ) (at : ℕ) (bytes : List ℕ) (result : Result Unit E) (old new : AreaState)
+    → IsAfter kept old → length kept ≤ at → IsWrite at bytes result old new → IsAfter kept new
+after_write kept at bytes result old new after le write = record {
+  synced = ap (λ (l : List ℕ). take (length kept) l) write.synced ∙ after.synced;
+  least = omega (arith, after.least, write.least);
   written = elim write.written [
-    | inl more ↦ subst (λ (w : List (ℕ × ℕ)). AllFrom (length kept) w) (sym more) (le, behind.written)
-    | inr none ↦ subst (λ (w : List (ℕ × ℕ)). AllFrom (length kept) w) (sym none) behind.written
+    | inl more ↦ subst (λ (w : List (ℕ × ℕ)). AllFrom (length kept) w) (sym more) (le, after.written)
+    | inr none ↦ subst (λ (w : List (ℕ × ℕ)). AllFrom (length kept) w) (sym none) after.written
   ];
 }
 
-pub behind_cut : {E : Type 0} (kept : List ℕ) (to : ℕ) (result : Result Unit E) (old new : AreaState) → IsBehind kept old → length kept ≤ to → IsCut to result old new → IsBehind kept new
-behind_cut kept to result old new behind le cut = record {
-  synced = ap (λ (l : List ℕ). take (length kept) l) cut.synced ∙ behind.synced;
-  least = omega (arith, behind.least, cut.least, le);
-  written = subst (λ (w : List (ℕ × ℕ)). AllFrom (length kept) w) (sym cut.written) behind.written;
+pub after_cut : {E : Type 0} (kept : List ℕ) (to : ℕ) (result : Result Unit E) (old new : AreaState) → IsAfter kept old
+    → length kept ≤ to → IsCut to result old new → IsAfter kept new
+after_cut kept to result old new after le cut = record {
+  synced = ap (λ (l : List ℕ). take (length kept) l) cut.synced ∙ after.synced;
+  least = omega (arith, after.least, cut.least, le);
+  written = subst (λ (w : List (ℕ × ℕ)). AllFrom (length kept) w) (sym cut.written) after.written;
 }
 
 outside : (n i : ℕ) (ranges : List (ℕ × ℕ)) → AllFrom n ranges → i < n → IsOutside i ranges
@@ -49,25 +51,29 @@ outside n i [] all lt = tt
 outside n i (range ∷ ranges) all lt = (inl (omega (arith, all.0)), outside n i ranges all.1 lt)
 
 -- Each image begins with these bytes.
-pub behind_image : (kept : List ℕ) (area : AreaState) (image : List ℕ) → IsBehind kept area → IsImage area image → take (length kept) image ≡ kept
-behind_image kept area image behind is =
-    let long : length (take (length kept) image) ≡ length kept = omega (arith, length-take (length kept) image, behind.least, is.no_shorter) in
+pub after_image : (kept : List ℕ) (area : AreaState) (image : List ℕ) → IsAfter kept area → IsImage area image
+    → take (length kept) image ≡ kept
+after_image kept area image after is =
+    let long : length (take (length kept) image) ≡ length kept = omega (arith, length-take (length kept) image, after.least, is.no_shorter) in
     ext_get_or 0 (take (length kept) image) kept long (λ i lt.
     let below : i < length kept = omega (arith, long) in
     get_or-take (length kept) image i 0 below
-    ∙ is.kept i (omega (arith, below, behind.least)) (outside (length kept) i area.written behind.written below)
+    ∙ is.kept i (omega (arith, below, after.least)) (outside (length kept) i area.written after.written below)
     ∙ sym (get_or-take (length kept) area.synced i 0 below)
-    ∙ ap (λ (l : List ℕ). get_or l i 0) behind.synced)
+    ∙ ap (λ (l : List ℕ). get_or l i 0) after.synced)
 
 -- What is an image after a sync was one before it.
-pub sync_image : {E : Type 0} (result : Result Unit E) (old new : AreaState) → IsImage old old.seen → IsSync result old new → (image : List ℕ) → IsImage new image → IsImage old image
+pub sync_image : {E : Type 0} (result : Result Unit E) (old new : AreaState) → IsImage old old.seen → IsSync result old new
+    → (image : List ℕ) → IsImage new image → IsImage old image
 sync_image (Ok u) old new seen sync image is =
     let same : image ≡ old.seen = only_image old.seen image new sync.done is in
     subst (λ (l : List ℕ). IsImage old l) (sym same) seen
 sync_image (Err e) old new seen sync image is = subst (λ (a : AreaState). IsImage a image) sync.failed is
 
 -- Where one byte is written over, that byte alone may be any.
-pub byte_image : {E : Type 0} (seen : List ℕ) (at byte : ℕ) (result : Result Unit E) (old new : AreaState) → old ≡ clean seen → at < length seen → IsWrite at (byte ∷ []) result old new → (image : List ℕ) → IsImage new image → image ≡ set seen at (get_or image at 0)
+pub byte_image : {E : Type 0} (seen : List ℕ) (at byte : ℕ) (result : Result Unit E) (old new : AreaState) → old ≡ clean seen
+    → at < length seen → IsWrite at (byte ∷ []) result old new → (image : List ℕ) → IsImage new image
+    → image ≡ set seen at (get_or image at 0)
 byte_image seen at byte result old new is_clean lt write image is =
     let synced : new.synced ≡ seen = write.synced ∙ ap (λ (a : AreaState). a.synced) is_clean in
     let least : new.least ≡ length seen = write.least ∙ ap (λ (a : AreaState). a.least) is_clean in

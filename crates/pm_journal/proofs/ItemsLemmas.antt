@@ -3,7 +3,7 @@ use Rattle.std.proofs.Common.{◌≡◌, ◌≢◌, ◌⊎◌, inl, inr, ℕ, �
 use Rattle.std.proofs.lemmas.List.{append-nil, append_cancel_left, take_at, drop_at}
 use Rattle.std.proofs.lemmas.Nat.{from_be_bytes-to_be_bytes_4}
 use Rattle.std.specs.Int.{w32, from_be_bytes}
-use Rattle.pm_journal.specs.Items.{mark, size_bytes, blocks, front, IsItem, IsCutShort, EachFits, HasList, HasItems, EndsAt}
+use Rattle.pm_journal.specs.Items.{mark, size_bytes, blocks, prefix, IsItem, IsCutShort, EachFits, HasList, HasItems, EndsAt}
 
 pub length-size_bytes : (n : ℕ) → length (size_bytes n) ≡ 4
 unfolding size_bytes
@@ -18,19 +18,19 @@ pub size_bytes-unique : (m n : ℕ) → m < 2 ^ 32 → n < 2 ^ 32 → size_bytes
 size_bytes-unique m n m_fits n_fits same = sym (size_of_size_bytes m m_fits) ∙ ap (from_be_bytes w32) same ∙ size_of_size_bytes n n_fits
 
 -- What the first four bytes of an item are, and how long the bytes are.
-pub item_size : (bytes item behind : List ℕ) → IsItem bytes item behind → take 4 bytes ≡ size_bytes (length item)
-item_size bytes item behind is =
-    ap (λ (l : List ℕ). take 4 l) (is.is ∙ append_assoc (size_bytes (length item)) item behind)
-    ∙ take_at (size_bytes (length item)) (item ++ behind) 4 (length-size_bytes (length item))
+pub item_size : (bytes item after : List ℕ) → IsItem bytes item after → take 4 bytes ≡ size_bytes (length item)
+item_size bytes item after is =
+    ap (λ (l : List ℕ). take 4 l) (is.is ∙ append_assoc (size_bytes (length item)) item after)
+    ∙ take_at (size_bytes (length item)) (item ++ after) 4 (length-size_bytes (length item))
 
-pub item_rest : (bytes item behind : List ℕ) → IsItem bytes item behind → drop 4 bytes ≡ item ++ behind
-item_rest bytes item behind is =
-    ap (λ (l : List ℕ). drop 4 l) (is.is ∙ append_assoc (size_bytes (length item)) item behind)
-    ∙ drop_at (size_bytes (length item)) (item ++ behind) 4 (length-size_bytes (length item))
+pub item_rest : (bytes item after : List ℕ) → IsItem bytes item after → drop 4 bytes ≡ item ++ after
+item_rest bytes item after is =
+    ap (λ (l : List ℕ). drop 4 l) (is.is ∙ append_assoc (size_bytes (length item)) item after)
+    ∙ drop_at (size_bytes (length item)) (item ++ after) 4 (length-size_bytes (length item))
 
-pub item_length : (bytes item behind : List ℕ) → IsItem bytes item behind → length bytes ≡ 4 + length item + length behind
-item_length bytes item behind is =
-    omega (arith, ap length is.is, length-append (size_bytes (length item) ++ item) behind, length-append (size_bytes (length item)) item, length-size_bytes (length item))
+pub item_length : (bytes item after : List ℕ) → IsItem bytes item after → length bytes ≡ 4 + length item + length after
+item_length bytes item after is =
+    omega (arith, ap length is.is, length-append (size_bytes (length item) ++ item) after, length-append (size_bytes (length item)) item, length-size_bytes (length item))
 
 -- Bytes begin with one item at most.
 pub item_unique : (bytes x r y s : List ℕ) → IsItem bytes x r → IsItem bytes y s → (x ≡ y) × (r ≡ s)
@@ -41,18 +41,20 @@ item_unique bytes x r y s first second =
       sym (drop_at x r (length x) refl) ∙ ap (λ (l : List ℕ). drop (length x) l) rest ∙ drop_at y s (length x) (sym same_size),
     )
 
--- Behind the open gate of a block stands its item.
-pub block_item : (item : List ℕ) (items : List (List ℕ)) (gate : ℕ) (rest : List ℕ) → length item < 2 ^ 32 → IsItem ((size_bytes (length item) ++ item ++ blocks items) ++ gate ∷ rest) item (blocks items ++ gate ∷ rest)
+-- After the open gate of a block comes its item.
+pub block_item : (item : List ℕ) (items : List (List ℕ)) (gate : ℕ) (rest : List ℕ) → length item < 2 ^ 32
+    → IsItem ((size_bytes (length item) ++ item ++ blocks items) ++ gate ∷ rest) item (blocks items ++ gate ∷ rest)
 block_item item items gate rest fits = record {
   is = append_assoc (size_bytes (length item) ++ item) (blocks items) (gate ∷ rest);
   fits = fits;
   gate = omega (arith, length-append (blocks items) (gate ∷ rest));
 }
 
--- Where the list stops there is no item behind an open gate.
-pub stop_has_no_item : (gate : ℕ) (rest item behind : List ℕ) → (gate ≢ 1) ⊎ IsCutShort rest → gate ≡ 1 → IsItem rest item behind → ⊥
-stop_has_no_item gate rest item behind (inl closed) is_open is = closed is_open
-stop_has_no_item gate rest item behind (inr cut) is_open is = cut item behind is
+-- Where the list stops there is no item after an open gate.
+pub stop_has_no_item : (gate : ℕ) (rest item after : List ℕ) → (gate ≢ 1) ⊎ IsCutShort rest → gate ≡ 1 → IsItem rest item after
+    → ⊥
+stop_has_no_item gate rest item after (inl closed) is_open is = closed is_open
+stop_has_no_item gate rest item after (inr cut) is_open is = cut item after is
 
 head_of : (x y : ℕ) (xs ys : List ℕ) → x ∷ xs ≡ y ∷ ys → x ≡ y
 head_of x y xs ys same = cc
@@ -60,7 +62,8 @@ head_of x y xs ys same = cc
 tail_of : (x y : ℕ) (xs ys : List ℕ) → x ∷ xs ≡ y ∷ ys → xs ≡ ys
 tail_of x y xs ys same = cc
 
-same_blocks : (xs ys : List (List ℕ)) (g h : ℕ) (r s : List ℕ) → EachFits xs → EachFits ys → (g ≢ 1) ⊎ IsCutShort r → (h ≢ 1) ⊎ IsCutShort s → blocks xs ++ g ∷ r ≡ blocks ys ++ h ∷ s → xs ≡ ys
+same_blocks : (xs ys : List (List ℕ)) (g h : ℕ) (r s : List ℕ) → EachFits xs → EachFits ys → (g ≢ 1) ⊎ IsCutShort r
+    → (h ≢ 1) ⊎ IsCutShort s → blocks xs ++ g ∷ r ≡ blocks ys ++ h ∷ s → xs ≡ ys
 same_blocks [] [] g h r s xs_fit ys_fit g_stops h_stops same = refl
 same_blocks [] (y ∷ ys) g h r s xs_fit ys_fit g_stops h_stops same =
     let item = block_item y ys h s ys_fit.0 in
@@ -85,10 +88,10 @@ pub short_list : (bytes : List ℕ) (items : List (List ℕ)) → length bytes �
 short_list bytes items few (inl none) = none.1
 short_list bytes [] few (inr list) = refl
 short_list bytes (item ∷ items) few (inr list) =
-    let long : length (front (item ∷ items)) ≡ 9 + length (size_bytes (length item) ++ item ++ blocks items) = omega arith in
+    let long : length (prefix (item ∷ items)) ≡ 9 + length (size_bytes (length item) ++ item ++ blocks items) = omega arith in
     let four : 4 ≤ length (size_bytes (length item) ++ item ++ blocks items) =
     omega (arith, length-append (size_bytes (length item) ++ item) (blocks items), length-append (size_bytes (length item)) item, length-size_bytes (length item)) in
-    absurd (omega (arith, few, ap length list.is, length-append (front (item ∷ items)) (list.gate ∷ list.rest), long, four))
+    absurd (omega (arith, few, ap length list.is, length-append (prefix (item ∷ items)) (list.gate ∷ list.rest), long, four))
 
 -- The bytes of an area have one list.
 pub HasItems-unique : (bytes : List ℕ) (xs ys : List (List ℕ)) → HasItems bytes xs → HasItems bytes ys → xs ≡ ys
@@ -109,33 +112,36 @@ blocks-append (x ∷ xs) ys rest =
     ∙ ap (λ (l : List ℕ). head ++ l) (blocks-append xs ys rest)
     ∙ sym (append_assoc head (blocks xs) (blocks ys ++ rest)))
 
-pub front-append : (xs ys : List (List ℕ)) (rest : List ℕ) → front (xs ++ ys) ++ rest ≡ front xs ++ (blocks ys ++ rest)
-front-append xs ys rest = ap (λ (l : List ℕ). mark ++ l) (blocks-append xs ys rest)
+pub prefix-append : (xs ys : List (List ℕ)) (rest : List ℕ) → prefix (xs ++ ys) ++ rest ≡ prefix xs ++ (blocks ys ++ rest)
+prefix-append xs ys rest = ap (λ (l : List ℕ). mark ++ l) (blocks-append xs ys rest)
 
 -- The last block, with its gate open.
-pub front_push : (items : List (List ℕ)) (item rest : List ℕ) → front (items ++ item ∷ []) ++ rest ≡ front items ++ 1 ∷ (size_bytes (length item) ++ item ++ rest)
-front_push items item rest =
-    front-append items (item ∷ []) rest
-    ∙ ap (λ (l : List ℕ). front items ++ 1 ∷ (l ++ rest)) (append-nil (size_bytes (length item) ++ item))
+pub prefix_push : (items : List (List ℕ)) (item rest : List ℕ)
+    → prefix (items ++ item ∷ []) ++ rest ≡ prefix items ++ 1 ∷ (size_bytes (length item) ++ item ++ rest)
+prefix_push items item rest =
+    prefix-append items (item ∷ []) rest
+    ∙ ap (λ (l : List ℕ). prefix items ++ 1 ∷ (l ++ rest)) (append-nil (size_bytes (length item) ++ item))
 
-pub length-front_push : (items : List (List ℕ)) (item : List ℕ) → length (front (items ++ item ∷ [])) ≡ length (front items) + 5 + length item
-length-front_push items item =
+pub length-prefix_push : (items : List (List ℕ)) (item : List ℕ)
+    → length (prefix (items ++ item ∷ [])) ≡ length (prefix items) + 5 + length item
+length-prefix_push items item =
     let body = size_bytes (length item) ++ item ++ [] in
     omega (
       arith,
-      ap length (front_push items item []),
-      length-append (front (items ++ item ∷ [])) [],
-      length-append (front items) (1 ∷ body),
+      ap length (prefix_push items item []),
+      length-append (prefix (items ++ item ∷ [])) [],
+      length-append (prefix items) (1 ∷ body),
       length-append (size_bytes (length item) ++ item) [],
       length-append (size_bytes (length item)) item,
       length-size_bytes (length item),
     )
 
--- From the gate behind the first items on stand the others.
-pub drop_front : (xs ys : List (List ℕ)) (rest : List ℕ) → drop (length (front xs)) (front (xs ++ ys) ++ rest) ≡ blocks ys ++ rest
-drop_front xs ys rest =
-    ap (λ (l : List ℕ). drop (length (front xs)) l) (front-append xs ys rest)
-    ∙ drop_at (front xs) (blocks ys ++ rest) (length (front xs)) refl
+-- From the gate after the first items on come the others.
+pub drop_prefix : (xs ys : List (List ℕ)) (rest : List ℕ)
+    → drop (length (prefix xs)) (prefix (xs ++ ys) ++ rest) ≡ blocks ys ++ rest
+drop_prefix xs ys rest =
+    ap (λ (l : List ℕ). drop (length (prefix xs)) l) (prefix-append xs ys rest)
+    ∙ drop_at (prefix xs) (blocks ys ++ rest) (length (prefix xs)) refl
 
 pub EachFits-append : (xs ys : List (List ℕ)) → EachFits xs → EachFits ys → EachFits (xs ++ ys)
 EachFits-append [] ys first second = second

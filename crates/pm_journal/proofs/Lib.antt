@@ -5,4 +5,5 @@ mod StagingLemmas
 mod AppendingLemmas
 mod OpeningLemmas
 mod ReadingLemmas
+mod NextLemmas
 pub mod TiedLemmas

@@ -6,7 +6,7 @@ use Rattle.std.specs.Int.{w32, from_be_bytes}
 use Rattle.pm_disk.specs.declared.area.Area.{Area}
 use Rattle.pm_disk.specs.Moments.{Told, Throughout}
 use Rattle.pm_disk.proofs.MomentLemmas.{at_rest, look_on}
-use Rattle.pm_journal.specs.Items.{mark, size_bytes, blocks, front, IsItem, IsCutShort, EachFits, HasList, HasItems, EndsAt}
+use Rattle.pm_journal.specs.Items.{mark, size_bytes, blocks, prefix, IsItem, IsCutShort, EachFits, HasList, HasItems, EndsAt}
 use Rattle.pm_journal.specs.Lists.{KeepsList, KeepsLists}
 use Rattle.pm_journal.proofs.ItemsLemmas.{item_size, item_length, size_of_size_bytes, list_of_end, HasItems-unique, short_list}
 
@@ -32,7 +32,8 @@ below_or_not : (m n : ℕ) → (m < n) ⊎ (n ≤ m)
 below_or_not m n = grind arith
 
 -- The item whose length the first four bytes tell, where it and a byte more lie in the bytes.
-pub found_item : (bytes : List ℕ) (n : ℕ) → size_bytes n ≡ take 4 bytes → n < 2 ^ 32 → 4 + n < length bytes → IsItem bytes (take n (drop 4 bytes)) (drop n (drop 4 bytes))
+pub found_item : (bytes : List ℕ) (n : ℕ) → size_bytes n ≡ take 4 bytes → n < 2 ^ 32 → 4 + n < length bytes
+    → IsItem bytes (take n (drop 4 bytes)) (drop n (drop 4 bytes))
 found_item bytes n same fits inside =
     let long : length (take n (drop 4 bytes)) ≡ n = omega (arith, length-take n (drop 4 bytes), length-drop 4 bytes) in
     record {
@@ -46,19 +47,19 @@ found_item bytes n same fits inside =
       gate = omega (arith, length-drop n (drop 4 bytes), length-drop 4 bytes);
     }
 
-told_size : (bytes item behind : List ℕ) → IsItem bytes item behind → from_be_bytes w32 (take 4 bytes) ≡ length item
-told_size bytes item behind is = ap (from_be_bytes w32) (item_size bytes item behind is) ∙ size_of_size_bytes (length item) is.fits
+told_size : (bytes item after : List ℕ) → IsItem bytes item after → from_be_bytes w32 (take 4 bytes) ≡ length item
+told_size bytes item after is = ap (from_be_bytes w32) (item_size bytes item after is) ∙ size_of_size_bytes (length item) is.fits
 
 -- The item that the bytes begin with, if they begin with one.
-find_item : (bytes : List ℕ) → ((item : List ℕ) × (behind : List ℕ) × IsItem bytes item behind) ⊎ IsCutShort bytes
+find_item : (bytes : List ℕ) → ((item : List ℕ) × (after : List ℕ) × IsItem bytes item after) ⊎ IsCutShort bytes
 find_item bytes =
     let n = from_be_bytes w32 (take 4 bytes) in
     elim (same_or_not (size_bytes n) (take 4 bytes)) [
-      | inr apart ↦ inr (λ item behind is. apart (ap size_bytes (told_size bytes item behind is) ∙ sym (item_size bytes item behind is)))
+      | inr apart ↦ inr (λ item after is. apart (ap size_bytes (told_size bytes item after is) ∙ sym (item_size bytes item after is)))
       | inl same ↦ elim (below_or_not n (2 ^ 32)) [
-        | inr large ↦ inr (λ item behind is. omega (arith, large, is.fits, told_size bytes item behind is))
+        | inr large ↦ inr (λ item after is. omega (arith, large, is.fits, told_size bytes item after is))
         | inl fits ↦ elim (below_or_not (4 + n) (length bytes)) [
-          | inr long ↦ inr (λ item behind is. omega (arith, long, is.gate, told_size bytes item behind is, item_length bytes item behind is))
+          | inr long ↦ inr (λ item after is. omega (arith, long, is.gate, told_size bytes item after is, item_length bytes item after is))
           | inl inside ↦ inl (take n (drop 4 bytes), drop n (drop 4 bytes), found_item bytes n same fits inside)
         ]
       ]
@@ -72,8 +73,9 @@ record HasBlocks (bytes : List ℕ) (items : List (List ℕ)) : Type 0 where
   is : bytes ≡ blocks items ++ gate ∷ rest
   stops : (gate ≢ 1) ⊎ IsCutShort rest
 
-push_block : (rest item behind : List ℕ) (items : List (List ℕ)) → IsItem rest item behind → HasBlocks behind items → HasBlocks (1 ∷ rest) (item ∷ items)
-push_block rest item behind items is more = record {
+push_block : (rest item after : List ℕ) (items : List (List ℕ)) → IsItem rest item after → HasBlocks after items
+    → HasBlocks (1 ∷ rest) (item ∷ items)
+push_block rest item after items is more = record {
   fits = (is.fits, more.fits);
   gate = more.gate;
   rest = more.rest;
@@ -84,7 +86,8 @@ push_block rest item behind items is more = record {
   stops = more.stops;
 }
 
-has_blocks : (most : ℕ) (bytes : List ℕ) → length bytes ≤ most → 0 < length bytes → (items : List (List ℕ)) × HasBlocks bytes items
+has_blocks : (most : ℕ) (bytes : List ℕ) → length bytes ≤ most → 0 < length bytes
+    → (items : List (List ℕ)) × HasBlocks bytes items
 has_blocks zero bytes few some = absurd (omega (arith, few, some))
 has_blocks (suc most) [] few some = absurd (omega (arith, some))
 has_blocks (suc most) (gate ∷ rest) few some = elim (cases_eq gate 1) [
@@ -122,23 +125,25 @@ keeps_few before image few also = record {
   whole = λ whole. record { ends = inl also; small = omega (arith, also) };
 }
 
--- What stands behind a closed gate doesn't count.
-pub ends_behind_gate : (bytes image : List ℕ) (items : List (List ℕ)) (to : ℕ) (ends : EndsAt bytes items) → length (front items) + 1 ≡ to → take to image ≡ take to bytes → EndsAt image items
-ends_behind_gate bytes image items to ends to_is begins =
-    let head : take to bytes ≡ front items ++ ends.gate ∷ [] =
-    ap (λ (l : List ℕ). take to l) (ends.is ∙ sym (append_assoc (front items) (ends.gate ∷ []) ends.rest))
-    ∙ take_at (front items ++ ends.gate ∷ []) ends.rest to (length-append (front items) (ends.gate ∷ []) ∙ to_is) in
+-- What follows a closed gate doesn't count.
+pub ends_after_gate : (bytes image : List ℕ) (items : List (List ℕ)) (to : ℕ) (ends : EndsAt bytes items)
+    → length (prefix items) + 1 ≡ to → take to image ≡ take to bytes → EndsAt image items
+ends_after_gate bytes image items to ends to_is begins =
+    let head : take to bytes ≡ prefix items ++ ends.gate ∷ [] =
+    ap (λ (l : List ℕ). take to l) (ends.is ∙ sym (append_assoc (prefix items) (ends.gate ∷ []) ends.rest))
+    ∙ take_at (prefix items ++ ends.gate ∷ []) ends.rest to (length-append (prefix items) (ends.gate ∷ []) ∙ to_is) in
     record {
       fits = ends.fits;
       gate = ends.gate;
       rest = drop to image;
-      is = sym (take-append-drop to image) ∙ ap (λ (l : List ℕ). l ++ drop to image) (begins ∙ head) ∙ append_assoc (front items) (ends.gate ∷ []) (drop to image);
+      is = sym (take-append-drop to image) ∙ ap (λ (l : List ℕ). l ++ drop to image) (begins ∙ head) ∙ append_assoc (prefix items) (ends.gate ∷ []) (drop to image);
       closed = ends.closed;
     }
 
-pub keeps_up_to_gate : (bytes image : List ℕ) (items : List (List ℕ)) (to : ℕ) → EndsAt bytes items → length (front items) + 1 ≡ to → take to image ≡ take to bytes → length image ≤ length bytes → KeepsList bytes image
+pub keeps_up_to_gate : (bytes image : List ℕ) (items : List (List ℕ)) (to : ℕ) → EndsAt bytes items
+    → length (prefix items) + 1 ≡ to → take to image ≡ take to bytes → length image ≤ length bytes → KeepsList bytes image
 keeps_up_to_gate bytes image items to ends to_is begins no_longer =
-    let there = ends_behind_gate bytes image items to ends to_is begins in
+    let there = ends_after_gate bytes image items to ends to_is begins in
     record {
       items = λ others has.
           let same : others ≡ items = HasItems-unique bytes others items has (inr (list_of_end bytes items ends)) in

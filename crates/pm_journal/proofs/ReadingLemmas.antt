@@ -1,37 +1,42 @@
--- What is read from a gate on, and the journal behind it.
-use Rattle.std.proofs.Common.{◌≡◌, ◌≢◌, ◌⊎◌, inl, ℕ, ◌+◌, ◌<◌, ◌^◌, List, [], ◌∷◌, ◌++◌, length, get_or, take, drop, refl, sym, ◌∙◌, ap, subst, arith, append_assoc, length-append, length-drop}
-use Rattle.std.proofs.lemmas.List.{append-nil, drop_more, get_or-take, get_or-drop, drop-drop, take_at}
-use Rattle.pm_disk.specs.declared.area.Area.{Area}
-use Rattle.pm_disk.specs.Area.{AreaState, IsImage, clean}
-use Rattle.pm_disk.specs.Moments.{Told, Throughout, of}
-use Rattle.pm_disk.proofs.MomentLemmas.{weaken}
-use Rattle.pm_journal.specs.declared.item.Item.{Item}
-use Rattle.pm_journal.specs.declared.journal.Journal.{Journal}
-use Rattle.pm_journal.specs.declared.phase.Phase.TheVariants.{Ready}
-use Rattle.pm_journal.specs.Items.{size_bytes, blocks, front, IsItem, IsCutShort, EachFits, HasList, EndsAt}
-use Rattle.pm_journal.specs.Lists.{KeepsLists}
-use Rattle.pm_journal.specs.Journal.{IsAt, IsTied}
-use Rattle.pm_journal.specs.Appending.{IsCutting}
-use Rattle.pm_journal.specs.Reading.{IsOpenItem, IsClosedGate, IsGarbled, HandsOut, EndsList}
-use Rattle.pm_journal.proofs.ItemsLemmas.{item_size, item_length, item_unique, size_bytes-unique, block_item, stop_has_no_item, drop_front, length-front_push, EachFits-left, EachFits-right}
-use Rattle.pm_journal.proofs.ListLemmas.{found_item, keeps_up_to_gate}
+-- What is read from a gate on.
+use Rattle.std.proofs.Common.{◌≡◌, ℕ, ◌+◌, ◌<◌, ◌^◌, List, ◌∷◌, length, get_or, take, drop, sym, ◌∙◌, ap, subst, arith, length-drop}
+use Rattle.std.proofs.lemmas.List.{drop_more, get_or-take, get_or-drop, drop-drop}
+use Rattle.pm_journal.specs.Items.{size_bytes, IsItem, IsCutShort}
+use Rattle.pm_journal.specs.declared.error.JournalError.{JournalError}
+use Rattle.pm_journal.specs.declared.error.JournalError.TheVariants.{StoreFault, Foreign, Garbled, StoreFull, Memory}
+use Rattle.pm_journal.specs.Reading.{RefusesItem, RefusesToFind}
+use Rattle.pm_journal.proofs.ItemsLemmas.{item_size, item_length, size_bytes-unique}
+use Rattle.pm_journal.proofs.ListLemmas.{found_item}
 
 pub cut_short_of_few : (bytes : List ℕ) → length bytes < 5 → IsCutShort bytes
-cut_short_of_few bytes few = λ item behind is. omega (arith, few, item_length bytes item behind is, is.gate)
+cut_short_of_few bytes few = λ item after is. omega (arith, few, item_length bytes item after is, is.gate)
 
-pub cut_short_of_size : (bytes : List ℕ) (count : ℕ) → size_bytes count ≡ take 4 bytes → count < 2 ^ 32 → length bytes < 5 + count → IsCutShort bytes
-cut_short_of_size bytes count size fits few = λ item behind is.
-    let same : count ≡ length item = size_bytes-unique count (length item) fits is.fits (size ∙ item_size bytes item behind is) in
-    omega (arith, few, same, item_length bytes item behind is, is.gate)
+pub cut_short_of_size : (bytes : List ℕ) (count : ℕ) → size_bytes count ≡ take 4 bytes → count < 2 ^ 32 → length bytes < 5 + count
+    → IsCutShort bytes
+cut_short_of_size bytes count size fits few = λ item after is.
+    let same : count ≡ length item = size_bytes-unique count (length item) fits is.fits (size ∙ item_size bytes item after is) in
+    omega (arith, few, same, item_length bytes item after is, is.gate)
 
-pub item_read : (seen v : List ℕ) (at count : ℕ) → size_bytes count ≡ take 4 (drop at seen) → count < 2 ^ 32 → 4 + count < length (drop at seen) → v ≡ take count (drop (at + 4) seen) → (behind : List ℕ) × IsItem (drop at seen) v behind
+pub item_read : (seen v : List ℕ) (at count : ℕ) → size_bytes count ≡ take 4 (drop at seen) → count < 2 ^ 32
+    → 4 + count < length (drop at seen) → v ≡ take count (drop (at + 4) seen) → (after : List ℕ) × IsItem (drop at seen) v after
 item_read seen v at count size fits inside is =
     let bytes = drop at seen in
     let whole : v ≡ take count (drop 4 bytes) = is ∙ sym (ap (λ (l : List ℕ). take count l) (drop-drop 4 at seen)) in
     (drop count (drop 4 bytes), subst (λ (l : List ℕ). IsItem bytes l (drop count (drop 4 bytes))) (sym whole) (found_item bytes count size fits inside))
 
+-- Reading refuses from an open gate on as it refuses from the length after it on.
+pub refuses_from_gate : (IsTold : Type 0) (at : ℕ) (bytes after_gate : List ℕ) (e : JournalError)
+    → (IsTold → bytes ≡ 1 ∷ after_gate) → RefusesItem IsTold after_gate e → RefusesToFind IsTold at bytes e
+refuses_from_gate IsTold at bytes after_gate StoreFault is_open refuses = tt
+refuses_from_gate IsTold at bytes after_gate Foreign is_open refuses = absurd refuses
+refuses_from_gate IsTold at bytes after_gate (Garbled offset) is_open refuses = absurd refuses
+refuses_from_gate IsTold at bytes after_gate (StoreFull length' need) is_open refuses = absurd refuses
+refuses_from_gate IsTold at bytes after_gate Memory is_open refuses = λ told.
+    let found = refuses told in (found.0, record { after_gate = after_gate; after_item = found.1; is = is_open told; found = found.2 })
+
 -- The gate that is read is the first byte of the rest.
-pub gate_read : (seen buf : List ℕ) (at : ℕ) → at < length seen → buf ≡ take 1 (drop at seen) → drop at seen ≡ get_or buf 0 0 ∷ drop (at + 1) seen
+pub gate_read : (seen buf : List ℕ) (at : ℕ) → at < length seen → buf ≡ take 1 (drop at seen)
+    → drop at seen ≡ get_or buf 0 0 ∷ drop (at + 1) seen
 gate_read seen buf at lt is =
     let some : 0 < length (drop at seen) = omega (arith, length-drop at seen) in
     let same : get_or buf 0 0 ≡ get_or seen at 0 =
@@ -41,128 +46,6 @@ gate_read seen buf at lt is =
     ∙ ap (λ (n : ℕ). get_or seen n 0) (omega arith) in
     drop_more seen at 0 lt ∙ ap (λ (b : ℕ). b ∷ drop (at + 1) seen) (sym same)
 
-pub is_closed_gate : (seen buf : List ℕ) (at : ℕ) → at < length seen → buf ≡ take 1 (drop at seen) → get_or buf 0 0 ≢ 1 → IsClosedGate (drop at seen)
-is_closed_gate seen buf at lt is closed = record { gate = get_or buf 0 0; behind_gate = drop (at + 1) seen; is = gate_read seen buf at lt is; closed = closed }
-
-pub is_open_gate : (seen buf : List ℕ) (at : ℕ) → at < length seen → buf ≡ take 1 (drop at seen) → get_or buf 0 0 ≡ 1 → drop at seen ≡ 1 ∷ drop (at + 1) seen
+pub is_open_gate : (seen buf : List ℕ) (at : ℕ) → at < length seen → buf ≡ take 1 (drop at seen) → get_or buf 0 0 ≡ 1
+    → drop at seen ≡ 1 ∷ drop (at + 1) seen
 is_open_gate seen buf at lt is open_is = gate_read seen buf at lt is ∙ ap (λ (b : ℕ). b ∷ drop (at + 1) seen) open_is
-
-head_of : (x y : ℕ) (xs ys : List ℕ) → x ∷ xs ≡ y ∷ ys → x ≡ y
-head_of x y xs ys same = cc
-
-tail_of : (x y : ℕ) (xs ys : List ℕ) → x ∷ xs ≡ y ∷ ys → xs ≡ ys
-tail_of x y xs ys same = cc
-
--- What stands from the journal's gate on.
-from_gate : (old : Journal) (area : AreaState) (given left : List (List ℕ)) (at : IsAt old area given left) → drop old.at area.seen ≡ blocks left ++ at.list.gate ∷ at.list.rest
-from_gate old area given left at =
-    ap (λ (l : List ℕ). drop old.at l) at.list.is
-    ∙ ap (λ (n : ℕ). drop n (front (given ++ left) ++ at.list.gate ∷ at.list.rest)) at.gate
-    ∙ drop_front given left (at.list.gate ∷ at.list.rest)
-
--- An open item there is the first of those left.
-open_item_is : (bytes item : List ℕ) (left : List (List ℕ)) (gate : ℕ) (rest : List ℕ) → EachFits left → (gate ≢ 1) ⊎ IsCutShort rest → bytes ≡ blocks left ++ gate ∷ rest → IsOpenItem bytes item → (others : List (List ℕ)) × (left ≡ item ∷ others)
-open_item_is bytes item [] gate rest fits stops is found =
-    let same : gate ∷ rest ≡ 1 ∷ found.behind_gate = sym is ∙ found.is in
-    absurd (stop_has_no_item gate rest item found.behind_item stops (head_of gate 1 rest found.behind_gate same) (subst (λ (l : List ℕ). IsItem l item found.behind_item) (sym (tail_of gate 1 rest found.behind_gate same)) found.found))
-open_item_is bytes item (first ∷ others) gate rest fits stops is found =
-    let block = block_item first others gate rest fits.0 in
-    let same = sym found.is ∙ is in
-    let there = subst (λ (l : List ℕ). IsItem l item found.behind_item) (tail_of 1 1 found.behind_gate _ same) found.found in
-    (others, ap (λ (x : List ℕ). x ∷ others) (sym (item_unique _ item found.behind_item first (blocks others ++ gate ∷ rest) there block).0))
-
--- At a closed gate none is left.
-none_left : (bytes : List ℕ) (left : List (List ℕ)) (gate : ℕ) (rest : List ℕ) → bytes ≡ blocks left ++ gate ∷ rest → (closed : IsClosedGate bytes) → (left ≡ []) × (gate ≢ 1)
-none_left bytes [] gate rest is closed =
-    let same : closed.gate ≡ gate = head_of closed.gate gate closed.behind_gate rest (sym closed.is ∙ is) in
-    (refl, λ is_open. closed.closed (same ∙ is_open))
-none_left bytes (first ∷ others) gate rest is closed = absurd (closed.closed (head_of closed.gate 1 closed.behind_gate _ (sym closed.is ∙ is)))
-
--- At a garbled item none is left.
-pub none_left_garbled : (old : Journal) (area : AreaState) (given left : List (List ℕ)) → IsAt old area given left → IsGarbled (drop old.at area.seen) → left ≡ []
-none_left_garbled old area given left at garbled = garbled_ends (drop old.at area.seen) left at.list.gate at.list.rest (EachFits-right given left at.list.fits) (from_gate old area given left at) garbled
-  where
-    garbled_ends : (bytes : List ℕ) (left : List (List ℕ)) (gate : ℕ) (rest : List ℕ) → EachFits left → bytes ≡ blocks left ++ gate ∷ rest → IsGarbled bytes → left ≡ []
-    garbled_ends bytes [] gate rest fits is garbled = refl
-    garbled_ends bytes (first ∷ others) gate rest fits is garbled =
-        let block = block_item first others gate rest fits.0 in
-        let same = sym garbled.is ∙ is in
-        absurd (garbled.cut_short first (blocks others ++ gate ∷ rest) (subst (λ (l : List ℕ). IsItem l first (blocks others ++ gate ∷ rest)) (sym (tail_of 1 1 garbled.behind_gate _ same)) block))
-
--- The next item is handed out.
-handed_out : (item : Item) (v : List ℕ) (old new : Journal) (area : AreaState) (given left : List (List ℕ)) → IsAt old area given left → IsOpenItem (drop old.at area.seen) v → item.bytes ≡ v → item.offset ≡ old.at → new.at ≡ old.at + 5 + length v → new.length ≡ old.length → (new.phase ≡ Ready → ⊥) → HandsOut item old new area given left
-handed_out item v old new area given left at found bytes_is offset_is gate_is length_is reading =
-    let first = open_item_is (drop old.at area.seen) v left at.list.gate at.list.rest (EachFits-right given left at.list.fits) at.list.stops (from_gate old area given left at) found in
-    let left_is : left ≡ item.bytes ∷ first.0 = first.1 ∙ ap (λ (x : List ℕ). x ∷ first.0) (sym bytes_is) in
-    let same : given ++ left ≡ (given ++ item.bytes ∷ []) ++ first.0 = ap (λ (l : List (List ℕ)). given ++ l) left_is ∙ sym (append_assoc given (item.bytes ∷ []) first.0) in
-    record {
-      rest = first.0;
-      first = left_is;
-      offset = offset_is ∙ at.gate;
-      at = record {
-        on_disk = at.on_disk;
-        list = subst (λ (l : List (List ℕ)). HasList area.seen l) same at.list;
-        gate = omega (arith, gate_is, at.gate, length-front_push given item.bytes, ap length bytes_is);
-        length = length_is ∙ at.length;
-        ready = λ ready. absurd (reading ready);
-      };
-    }
-
-pub handed_out_at : (item : Item) (v : List ℕ) (old new : Journal) (area area' : AreaState) (given left : List (List ℕ)) → IsAt old area given left → IsOpenItem (drop old.at area.seen) v → item.bytes ≡ v → item.offset ≡ old.at → new.at ≡ old.at + 5 + length v → new.length ≡ old.length → (new.phase ≡ Ready → ⊥) → area' ≡ area → HandsOut item old new area' given left × (area' ≡ area)
-handed_out_at item v old new area area' given left at found bytes_is offset_is gate_is length_is reading same =
-    (subst (λ (a : AreaState). HandsOut item old new a given left) (sym same) (handed_out item v old new area given left at found bytes_is offset_is gate_is length_is reading), same)
-
-pub tied_behind_item : (v : List ℕ) (old new : Journal) (area area' : AreaState) (given left : List (List ℕ)) → IsAt old area given left → IsOpenItem (drop old.at area.seen) v → new.at ≡ old.at + 5 + length v → new.length ≡ old.length → (new.phase ≡ Ready → ⊥) → area' ≡ area → IsTied new area'
-tied_behind_item v old new area area' given left at found gate_is length_is reading same =
-    let item : Item = record { offset = old.at; bytes = v } in
-    let hands = handed_out item v old new area given left at found refl refl gate_is length_is reading in
-    subst (λ (a : AreaState). IsTied new a) (sym same) (given ++ v ∷ [], hands.rest, hands.at)
-
--- What the area is where it is cut behind the closed gate.
-ended_there : (old : Journal) (area : AreaState) (given left : List (List ℕ)) (at : IsAt old area given left) → (closed : IsClosedGate (drop old.at area.seen)) → EndsAt area.seen given
-ended_there old area given left at closed =
-    let none = none_left (drop old.at area.seen) left at.list.gate at.list.rest (from_gate old area given left at) closed in
-    let given_is : given ++ left ≡ given = ap (λ (l : List (List ℕ)). given ++ l) none.0 ∙ append-nil given in
-    record {
-      fits = EachFits-left given left at.list.fits;
-      gate = at.list.gate;
-      rest = at.list.rest;
-      is = at.list.is ∙ ap (λ (l : List (List ℕ)). front l ++ at.list.gate ∷ at.list.rest) given_is;
-      closed = none.1;
-    }
-
-pub list_ended : (old new : Journal) (area area' : AreaState) (given left : List (List ℕ)) → IsAt old area given left → IsClosedGate (drop old.at area.seen) → area' ≡ clean (take (old.at + 1) area.seen) → new.at ≡ old.at → new.length ≡ old.at + 1 → new.phase ≡ Ready → EndsList old new area area' given left
-list_ended old new area area' given left at closed is gate_is length_is ready_is =
-    let none = none_left (drop old.at area.seen) left at.list.gate at.list.rest (from_gate old area given left at) closed in
-    let ends = ended_there old area given left at closed in
-    let seen_is : area'.seen ≡ take (old.at + 1) area.seen = ap (λ (a : AreaState). a.seen) is in
-    let to_is : length (front given ++ ends.gate ∷ []) ≡ old.at + 1 = omega (arith, length-append (front given) (ends.gate ∷ []), at.gate) in
-    let end_is : area'.seen ≡ front given ++ ends.gate ∷ [] =
-    seen_is
-    ∙ ap (λ (l : List ℕ). take (old.at + 1) l) (ends.is ∙ sym (append_assoc (front given) (ends.gate ∷ []) ends.rest))
-    ∙ take_at (front given ++ ends.gate ∷ []) ends.rest (old.at + 1) to_is in
-    record {
-      none_left = none.0;
-      closed = closed;
-      cut = seen_is;
-      ready = ready_is;
-      at = record {
-        on_disk = is ∙ ap clean (sym seen_is);
-        list = subst (λ (l : List (List ℕ)). HasList area'.seen l) (sym (append-nil given)) (record { fits = ends.fits; gate = ends.gate; rest = []; is = end_is; stops = inl ends.closed });
-        gate = gate_is ∙ at.gate;
-        length = omega (arith, length_is, ap length end_is, to_is);
-        ready = λ ready. record { gate = ends.gate; closed = ends.closed; is = end_is };
-      };
-    }
-
--- While the area is cut behind the closed gate.
-pub keeps_cutting : (area : Area) (old new : Told) (journal : Journal) (to : ℕ) (given left : List (List ℕ)) → IsAt journal (of old.now area) given left → IsClosedGate (drop journal.at (of old.now area).seen) → IsImage (of old.now area) (of old.now area).seen → to ≡ journal.at + 1 → Throughout (IsCutting area to old.now) old new → Throughout (KeepsLists area old.now) old new
-keeps_cutting area old new journal to given left at closed seen to_is run =
-    weaken (IsCutting area to old.now) (KeepsLists area old.now) old new (λ state cutting. record {
-      each = λ image is. (
-        (of old.now area).seen,
-        seen,
-        keeps_up_to_gate (of old.now area).seen image given to (ended_there journal (of old.now area) given left at closed) (omega (arith, to_is, at.gate)) (cutting.begins image is) (cutting.no_longer image is),
-      );
-      that = cutting.that;
-    }) run

@@ -1,4 +1,4 @@
--- The area is as the journal knows it, behind each call that is Ok.
+-- The area is as the journal knows it, after each call that is Ok.
 use Rattle.std.proofs.Common.{◌≡◌, inl, ℕ, List, [], ◌∷◌, ◌++◌, Option, Some, None, sym, ◌∙◌, subst}
 use Rattle.std.proofs.lemmas.List.{append-nil}
 use Rattle.pm_disk.specs.Area.{AreaState}
@@ -11,15 +11,18 @@ use Rattle.pm_journal.specs.Opening.{IsOpened}
 use Rattle.pm_journal.specs.Reading.{IsNext}
 use Rattle.pm_journal.proofs.ItemsLemmas.{EachFits-left}
 
-pub tied_opened : {limit : ℕ} {bytes : List ℕ} {journal : Journal} {area : AreaState} → IsOpened limit bytes journal area → IsTied journal area
+pub tied_opened : {limit : ℕ} {bytes : List ℕ} {journal : Journal} {area : AreaState} → IsOpened limit bytes journal area
+    → IsTied journal area
 tied_opened opened = ([], opened.items, opened.at)
 
-pub tied_next : (next : Option Item) (old new : Journal) (area area' : AreaState) (given left : List (List ℕ)) → IsNext next old new area area' given left → IsTied new area'
+pub tied_next : (next : Option Item) (old new : Journal) (area area' : AreaState) (given left : List (List ℕ))
+    → IsNext next old new area area' given left → IsTied new area'
 tied_next None old new area area' given left ends = (given, [], ends.at)
 tied_next (Some item) old new area area' given left hands = (given ++ item.bytes ∷ [], hands.0.rest, hands.0.at)
 
 -- A journal that is ready has none left.
-pub at_ready : (journal : Journal) (area : AreaState) (given left : List (List ℕ)) → IsAt journal area given left → journal.phase ≡ Ready → IsAt journal area given []
+pub at_ready : (journal : Journal) (area : AreaState) (given left : List (List ℕ)) → IsAt journal area given left
+    → journal.phase ≡ Ready → IsAt journal area given []
 at_ready journal area given left at ready =
     let end = at.ready ready in
     record {

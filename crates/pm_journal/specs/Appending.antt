@@ -9,7 +9,7 @@ pub record IsCleanTo (at : ℕ) (area : AreaState) : Type 0 where
   pub clean : area ≡ clean area.seen
   pub length : length area.seen ≡ at
 
--- While an item is put behind the closed gate, each image begins with what the area had, and is at most this long. The other
+-- While an item is put after the closed gate, each image begins with what the area had, and is at most this long. The other
 -- area is as it was.
 pub record IsStaging (area : Area) (most : ℕ) (old disk : DiskState) : Type 0 where
   pub begins : (image : List ℕ) → IsImage (of disk area) image → take (length (of old area).seen) image ≡ (of old area).seen

@@ -4,7 +4,7 @@ use Rattle.pm_disk.specs.declared.area.Area.{Area}
 use Rattle.pm_disk.specs.Area.{AreaState, clean}
 use Rattle.pm_journal.specs.declared.journal.Journal.{Journal}
 use Rattle.pm_journal.specs.declared.phase.Phase.TheVariants.{Ready, Spent}
-use Rattle.pm_journal.specs.Items.{front, HasList}
+use Rattle.pm_journal.specs.Items.{prefix, HasList}
 
 -- The area that it is kept in.
 abbrev pub area_of : Journal → Area
@@ -34,18 +34,18 @@ IsUsable journal = journal.phase ≢ Spent
 abbrev pub IsReady : Journal → Type 0
 IsReady journal = journal.phase ≡ Ready
 
--- The area has these items, a closed gate, and nothing behind it.
+-- The area has these items, a closed gate, and nothing after it.
 pub record IsAtEnd (bytes : List ℕ) (items : List (List ℕ)) : Type 0 where
   pub gate : ℕ
   pub closed : gate ≢ 1
-  pub is : bytes ≡ front items ++ gate ∷ []
+  pub is : bytes ≡ prefix items ++ gate ∷ []
 
--- The list of the area is on the disk. The journal has handed out or added the items given, and those left stand from the
+-- The list of the area is on the disk. The journal has handed out or added the items given, and those left follow from the
 -- gate on that it has come to.
 pub record IsAt (journal : Journal) (area : AreaState) (given left : List (List ℕ)) : Type 0 where
   pub on_disk : area ≡ clean area.seen
   pub list : HasList area.seen (given ++ left)
-  pub gate : journal.at ≡ length (front given)
+  pub gate : journal.at ≡ length (prefix given)
   pub length : journal.length ≡ length area.seen
   pub ready : journal.phase ≡ Ready → IsAtEnd area.seen given
 

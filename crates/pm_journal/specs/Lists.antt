@@ -10,6 +10,12 @@ pub record KeepsList (before image : List ℕ) : Type 0 where
   pub items : (items : List (List ℕ)) → HasItems before items → HasItems image items
   pub whole : IsWhole before → IsWhole image
 
+-- The area reads as it did, and each image of it is one that it had at the start. The other area is as it was.
+pub record KeepsArea (area : Area) (old disk : DiskState) : Type 0 where
+  pub seen : (of disk area).seen ≡ (of old area).seen
+  pub images : (image : List ℕ) → IsImage (of disk area) image → IsImage (of old area) image
+  pub that : of disk (other area) ≡ of old (other area)
+
 -- Each image of the area has the list that some image of it had at the start, and is whole where that was. The other area
 -- is as it was.
 pub record KeepsLists (area : Area) (old disk : DiskState) : Type 0 where

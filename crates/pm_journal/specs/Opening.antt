@@ -38,9 +38,10 @@ pub record IsRefreshing (area : Area) (old disk : DiskState) : Type 0 where
   pub greatest : (of disk area).greatest ≤ 9
   pub that : of disk (other area) ≡ of old (other area)
 
--- A journal of these bytes is opened: they are fresh or marked, and it is at the first gate of their list.
+-- A journal of these bytes is opened: they are fresh or marked, a marked area keeps them, and the journal is at the first
+-- gate of their list.
 pub record IsOpened (limit : ℕ) (bytes : List ℕ) (journal : Journal) (area : AreaState) : Type 0 where
-  pub why : IsFresh limit bytes ⊎ IsMarked limit bytes
+  pub begun : IsBegun limit bytes area
   pub items : List (List ℕ)
   pub list : HasItems bytes items
   pub at : IsAt journal area [] items

@@ -1,28 +1,43 @@
 -- When each call of a journal refuses, and what stays after it.
-use Rattle.std.specs.Prelude.{◌≡◌, ◌<◌, ◌≤◌, ◌+◌, ℕ, List, length, drop}
-use Rattle.pm_disk.specs.Moments.{Told, of}
+use Rattle.std.specs.Prelude.{◌≡◌, ◌<◌, ◌≤◌, ◌+◌, ℕ, Bool, true, false, List, length, drop, Result, Ok, Err}
+use Rattle.pm_disk.specs.declared.area.Area.{Area}
+use Rattle.pm_disk.specs.Moments.{Told, Throughout, of}
 use Rattle.pm_journal.specs.declared.error.JournalError.{JournalError}
 use Rattle.pm_journal.specs.declared.error.JournalError.TheVariants.{StoreFault, Foreign, Garbled, StoreFull, Memory}
 use Rattle.pm_journal.specs.declared.journal.Journal.{Journal}
 use Rattle.pm_journal.specs.Journal.{area_of, limit_of, length_of, gate_of, IsSpent}
+use Rattle.pm_journal.specs.Lists.{KeepsArea}
 use Rattle.pm_journal.specs.Opening.{IsForeign}
-use Rattle.pm_journal.specs.Reading.{IsGarbled}
+use Rattle.pm_journal.specs.Reading.{IsGarbled, IsOpenItem}
 
--- `open`, of an area that read `bytes` before and reads `bytes'` behind it. A fault has its own clause.
-abbrev pub RefusesToOpen : ℕ → List ℕ → List ℕ → JournalError → Type 0
-RefusesToOpen limit bytes bytes' StoreFault = Unit {0}
-RefusesToOpen limit bytes bytes' Foreign = IsForeign limit bytes
-RefusesToOpen limit bytes bytes' (Garbled offset) = ⊥
-RefusesToOpen limit bytes bytes' (StoreFull length' need) = (length' ≡ 0) × (need ≡ 9) × (length bytes ≤ 9) × (limit < 9) × (bytes' ≡ bytes)
-RefusesToOpen limit bytes bytes' Memory = ⊥
+-- The answer is that the disk failed.
+abbrev pub is_store_fault : {T : Type 0} → Result T JournalError → Bool
+is_store_fault (Ok value) = false
+is_store_fault (Err StoreFault) = true
+is_store_fault (Err Foreign) = false
+is_store_fault (Err (Garbled offset)) = false
+is_store_fault (Err (StoreFull length' need)) = false
+is_store_fault (Err Memory) = false
 
--- `next`. But for a fault, the journal and the disk are as before.
+-- `open`. A foreign area reads as it did. One that is fresh and finds no room reads as it did too, and has no image that it
+-- didn't have.
+abbrev pub RefusesToOpen : ℕ → Area → Told → Told → JournalError → Type 0
+RefusesToOpen limit area old new StoreFault = Unit {0}
+RefusesToOpen limit area old new Foreign = IsForeign limit (of old.now area).seen × ((of new.now area).seen ≡ (of old.now area).seen)
+RefusesToOpen limit area old new (Garbled offset) = ⊥
+RefusesToOpen limit area old new (StoreFull length' need) =
+    (length' ≡ 0) × (need ≡ 9) × (length (of old.now area).seen ≤ 9) × (limit < 9) × Throughout (KeepsArea area old.now) old new
+RefusesToOpen limit area old new Memory = ⊥
+
+-- `next`. But for a fault, the journal and the disk are as before. Memory comes only where an item is to be handed out.
 abbrev pub RefusesNext : (IsTold : Type 0) → Journal → Journal → Told → Told → JournalError → Type 0
 RefusesNext IsTold old new told told' StoreFault = IsSpent new
 RefusesNext IsTold old new told told' Foreign = ⊥
-RefusesNext IsTold old new told told' (Garbled offset) = (offset ≡ gate_of old) × (new ≡ old) × (IsTold → (told' ≡ told) × IsGarbled (drop (gate_of old) (of told.now (area_of old)).seen))
+RefusesNext IsTold old new told told' (Garbled offset) =
+    (offset ≡ gate_of old) × (new ≡ old) × (IsTold → (told' ≡ told) × IsGarbled (drop (gate_of old) (of told.now (area_of old)).seen))
 RefusesNext IsTold old new told told' (StoreFull length' need) = ⊥
-RefusesNext IsTold old new told told' Memory = (new ≡ old) × (IsTold → told' ≡ told)
+RefusesNext IsTold old new told told' Memory =
+    (new ≡ old) × (IsTold → (told' ≡ told) × ((item : List ℕ) × IsOpenItem (drop (gate_of old) (of told.now (area_of old)).seen) item))
 
 -- `append` of so many bytes. But for a fault, the journal and the disk are as before.
 abbrev pub RefusesToAppend : (IsTold : Type 0) → ℕ → Journal → Journal → Told → Told → JournalError → Type 0

@@ -7,12 +7,13 @@
 //!     13       n      the item
 //!     13 + n   1      the next gate
 //!
-//! An area of at most 9 bytes is fresh. `append` writes the length, the item and a closed gate behind the closed gate, syncs,
-//! opens the gate, and syncs again. `next` cuts what stands behind the closed gate, so that nothing counts once it is opened.
-ghost use Rattle.std.specs.Prelude.{◌≡◌, ◌<◌, ◌≤◌, ◌+◌, ◌^◌, ◌++◌, [], ◌∷◌, List, ℕ, length, drop, IsNone, OnOk, IfOk, IfErr, IsErrOf};
-ghost use Rattle.pm_outside.specs.Causes.{Rose};
+//! An area of at most 9 bytes is fresh. `append` writes the length, the item and a closed gate after the closed gate, syncs,
+//! opens the gate, and syncs again. `next` cuts what follows the closed gate, so that nothing counts once it is opened.
+ghost use Rattle.std.specs.Prelude.{◌≡◌, ◌<◌, ◌≤◌, ◌+◌, ◌^◌, ◌++◌, [], ◌∷◌, List, ℕ, length, drop, IsNone, OnOk, IfOk, IfErr};
+ghost use Rattle.pm_outside.specs.Causes.{faults_after};
 ghost use Rattle.pm_disk.specs.Moments.{of, Throughout};
-ghost use Rattle.pm_journal.specs.Lists.{KeepsLists, HasEither};
+ghost use Rattle.pm_journal.specs.Items.{with_item};
+ghost use Rattle.pm_journal.specs.Lists.{KeepsArea, KeepsLists, HasEither};
 
 use crate::appending::{add, cut_to};
 use crate::opening::begin;
@@ -20,8 +21,8 @@ use crate::phase::Phase;
 use crate::reading::{Found, find};
 use crate::{Item, JournalError};
 use pm_base::Blob;
-use pm_outside::Failed;
 use pm_disk::{Area, Disk};
+use pm_outside::Failed;
 use std::alloc::Global;
 
 /// A journal. It is opened, then read with `next` up to the end of its list, and then it takes items. After `StoreFault` it is
@@ -43,7 +44,7 @@ impl Journal {
     ghost use Rattle.pm_journal.specs.Journal.{area_of, limit_of, length_of, gate_of, IsSpent, IsUsable, IsReady, IsAt, IsTied};
     ghost use Rattle.pm_journal.specs.Opening.{IsOpened};
     ghost use Rattle.pm_journal.specs.Reading.{IsNext, IsClosedGate};
-    ghost use Rattle.pm_journal.specs.Refusals.{RefusesToOpen, RefusesNext, RefusesToAppend};
+    ghost use Rattle.pm_journal.specs.Refusals.{is_store_fault, RefusesToOpen, RefusesNext, RefusesToAppend};
 
     /// Opens the journal in this area, which may get as long as `limit` bytes.
     pub fn open<D: Disk>(
@@ -60,9 +61,12 @@ impl Journal {
         ensures place { IfOk result (λ journal. (area_of journal ≡ area) × (limit_of journal ≡ limit)) }
         ensures any_moment { D.IsTold → Throughout (KeepsLists area (D.told disk.old).now) (D.told disk.old) (D.told disk.new) }
 
-        ensures refused { D.IsTold → IfErr result (RefusesToOpen limit (of (D.told disk.old).now area).seen (of (D.told disk.new).now area).seen) }
-        ensures fault { IsErrOf result JournalError.StoreFault → Rose (D.faults disk.old) (D.faults disk.new) }
-        ensures later { D.faults disk.old ≤ D.faults disk.new }
+        // An area of over 9 bytes isn't touched, whatever the call answers.
+        ensures untouched { D.IsTold → 9 < length (of (D.told disk.old).now area).seen
+            → Throughout (KeepsArea area (D.told disk.old).now) (D.told disk.old) (D.told disk.new) }
+
+        ensures refused { D.IsTold → IfErr result (RefusesToOpen limit area (D.told disk.old) (D.told disk.new)) }
+        ensures faults { D.faults disk.new ≡ faults_after (is_store_fault result) (D.faults disk.old) }
     {
         let length = begin(disk, area, limit)?;
         Ok(Journal {
@@ -75,7 +79,7 @@ impl Journal {
         })
     }
 
-    /// Hands out the next item. None at the closed gate: what stands behind it is cut off, and items may be added.
+    /// Hands out the next item. None at the closed gate: what follows it is cut off, and items may be added.
     pub fn next<D: Disk>(&mut self, disk: &mut D) -> Result<Option<Item>, JournalError>
         requires usable { IsUsable self.old }
         requires tied { D.IsTold → IsTied self.old (of (D.told disk.old).now (area_of self.old)) }
@@ -89,8 +93,7 @@ impl Journal {
         ensures any_moment { D.IsTold → Throughout (KeepsLists (area_of self.old) (D.told disk.old).now) (D.told disk.old) (D.told disk.new) }
 
         ensures refused { IfErr result (RefusesNext D.IsTold self.old self.new (D.told disk.old) (D.told disk.new)) }
-        ensures fault { IsErrOf result JournalError.StoreFault → Rose (D.faults disk.old) (D.faults disk.new) }
-        ensures later { D.faults disk.old ≤ D.faults disk.new }
+        ensures faults { D.faults disk.new ≡ faults_after (is_store_fault result) (D.faults disk.old) }
     {
         match find(self.alloc, disk, self.area, self.at, self.length) {
             Ok(Found::Block(bytes)) => {
@@ -109,7 +112,7 @@ impl Journal {
         }
     }
 
-    // Cuts what stands behind the closed gate.
+    // Cuts what follows the closed gate.
     fn end<D: Disk>(&mut self, disk: &mut D) -> Result<Option<Item>, JournalError>
         requires usable { IsUsable self.old }
         requires tied { D.IsTold → IsTied self.old (of (D.told disk.old).now (area_of self.old)) }
@@ -123,8 +126,7 @@ impl Journal {
         ensures place { (area_of self.new ≡ area_of self.old) × (limit_of self.new ≡ limit_of self.old) }
         ensures any_moment { D.IsTold → Throughout (KeepsLists (area_of self.old) (D.told disk.old).now) (D.told disk.old) (D.told disk.new) }
         ensures refused { IfErr result (λ e. (e ≡ JournalError.StoreFault) × IsSpent self.new) }
-        ensures fault { IsErrOf result JournalError.StoreFault → Rose (D.faults disk.old) (D.faults disk.new) }
-        ensures later { D.faults disk.old ≤ D.faults disk.new }
+        ensures faults { D.faults disk.new ≡ faults_after (is_store_fault result) (D.faults disk.old) }
     {
         match cut_to(disk, self.area, self.at + 1) {
             Ok(()) => {
@@ -139,13 +141,15 @@ impl Journal {
         }
     }
 
-    /// Adds an item. It counts once the call has answered Ok, whatever happens behind it. No memory is taken.
+    /// Adds an item. It counts once the call has answered Ok, whatever happens after it. No memory is taken.
     pub fn append<D: Disk>(&mut self, disk: &mut D, bytes: &[u8]) -> Result<(), JournalError>
         requires ready { IsReady self.old }
         requires tied { D.IsTold → IsTied self.old (of (D.told disk.old).now (area_of self.old)) }
 
         ensures added { D.IsTold → (items : List (List ℕ)) → IsAt self.old (of (D.told disk.old).now (area_of self.old)) items []
             → OnOk result (IsAt self.new (of (D.told disk.new).now (area_of self.old)) (items ++ bytes.now ∷ []) []) }
+        ensures grown { D.IsTold → OnOk result ((of (D.told disk.new).now (area_of self.old)).seen
+            ≡ with_item (of (D.told disk.old).now (area_of self.old)).seen (gate_of self.old) bytes.now) }
         ensures tied { D.IsTold → OnOk result (IsTied self.new (of (D.told disk.new).now (area_of self.old))) }
         ensures ready { OnOk result (IsReady self.new) }
         ensures longer { OnOk result ((length_of self.new ≡ length_of self.old + 5 + length bytes.now) × (length_of self.new ≤ limit_of self.old)) }
@@ -156,8 +160,7 @@ impl Journal {
             → Throughout (HasEither (area_of self.old) (D.told disk.old).now items (items ++ bytes.now ∷ [])) (D.told disk.old) (D.told disk.new) }
 
         ensures refused { IfErr result (RefusesToAppend D.IsTold (length bytes.now) self.old self.new (D.told disk.old) (D.told disk.new)) }
-        ensures fault { IsErrOf result JournalError.StoreFault → Rose (D.faults disk.old) (D.faults disk.new) }
-        ensures later { D.faults disk.old ≤ D.faults disk.new }
+        ensures faults { D.faults disk.new ≡ faults_after (is_store_fault result) (D.faults disk.old) }
     {
         let length = self.length;
         let need = length + 5 + bytes.len() as u64;

@@ -1,9 +1,10 @@
-//! What stands from a gate on.
-ghost use Rattle.std.specs.Prelude.{◌≡◌, ◌<◌, ◌≤◌, ◌+◌, ◌^◌, IfOk, IfSome, IfErr, IsErrOf, length, drop};
-ghost use Rattle.pm_outside.specs.Causes.{Rose};
+//! What an area has from a gate on.
+ghost use Rattle.std.specs.Prelude.{◌≡◌, ◌<◌, ◌≤◌, ◌+◌, ◌^◌, IfOk, IfSome, IfErr, length, drop};
+ghost use Rattle.pm_outside.specs.Causes.{faults_after};
 ghost use Rattle.pm_disk.specs.Moments.{of};
 ghost use Rattle.pm_journal.specs.Items.{size_bytes};
-ghost use Rattle.pm_journal.specs.Reading.{FindsAt, FitsBefore, RefusesToFind, IsFaultOrMemory, IsItemOrCutShort};
+ghost use Rattle.pm_journal.specs.Refusals.{is_store_fault};
+ghost use Rattle.pm_journal.specs.Reading.{FindsAt, FitsBefore, RefusesToFind, RefusesItem, IsItemOrCutShort};
 
 use crate::JournalError;
 use crate::appending::OPEN;
@@ -12,13 +13,13 @@ use std::alloc::Global;
 
 #[derive(Drop)]
 pub enum Found {
-    // An item behind an open gate.
+    // An item after an open gate.
     Block(Vec<u8>),
     // A closed gate.
     End,
 }
 
-// What stands from the gate at this offset on, in an area that ends at that one.
+// What an area that ends at `end` has from the gate at this offset on.
 pub fn find<D: Disk>(
     alloc: Global,
     disk: &mut D,
@@ -34,8 +35,7 @@ pub fn find<D: Disk>(
     ensures fits { IfOk result (FitsBefore at end) }
     ensures told { D.IsTold → D.told disk.new ≡ D.told disk.old }
     ensures refused { IfErr result (RefusesToFind D.IsTold at (drop at (of (D.told disk.old).now area).seen)) }
-    ensures fault { IsErrOf result JournalError.StoreFault → Rose (D.faults disk.old) (D.faults disk.new) }
-    ensures later { D.faults disk.old ≤ D.faults disk.new }
+    ensures faults { D.faults disk.new ≡ faults_after (is_store_fault result) (D.faults disk.old) }
 {
     let mut gate = [0; 1];
     disk.read(area, at, &mut gate)?;
@@ -48,7 +48,7 @@ pub fn find<D: Disk>(
     }
 }
 
-// The item whose length stands at this offset. None where it doesn't end within the area.
+// The item whose length is at this offset. None where it doesn't end within the area.
 fn read_item<D: Disk>(
     alloc: Global,
     disk: &mut D,
@@ -63,9 +63,8 @@ fn read_item<D: Disk>(
     ensures item { D.IsTold → IfOk result (IsItemOrCutShort (drop at (of (D.told disk.old).now area).seen)) }
     ensures fits { IfOk result (λ item. IfSome item (λ v. at + 4 + length v.items < end)) }
     ensures told { D.IsTold → D.told disk.new ≡ D.told disk.old }
-    ensures refused { IfErr result IsFaultOrMemory }
-    ensures fault { IsErrOf result JournalError.StoreFault → Rose (D.faults disk.old) (D.faults disk.new) }
-    ensures later { D.faults disk.old ≤ D.faults disk.new }
+    ensures refused { IfErr result (RefusesItem D.IsTold (drop at (of (D.told disk.old).now area).seen)) }
+    ensures faults { D.faults disk.new ≡ faults_after (is_store_fault result) (D.faults disk.old) }
 {
     // The four bytes of the length and the next gate.
     if end - at < 5 {

@@ -4,8 +4,8 @@ ghost use Rattle.pm_disk.specs.Memory.{told_of};
 ghost use Rattle.pm_journal.specs.Journal.{area_of, IsUsable, IsReady, IsTied};
 
 use super::*;
-use pm_outside::Failed;
 use pm_disk::{Area, Disk, MemDisk};
+use pm_outside::Failed;
 use std::alloc::Global;
 use std::process::Abort;
 use std::test::Fail;
@@ -83,6 +83,12 @@ fn a_journal_of_sixteen_bytes_takes_one_item_of_two(rt: HostRuntime) -> Result<(
             need: 22
         })
     );
+    let need = 22;
+    let message = format!(in rt.alloc(); "{}", JournalError::StoreFull { length: 16, need })?;
+    assert_eq!(rt;
+        message.as_str(),
+        "the area has 16 bytes and would need 22, which passes the limit"
+    );
     put(&rt, &mut disk, 12, b"\x03")?;
     let mut journal = Journal::open(rt.alloc(), &mut disk, Area::First, 16)?;
     let garbled = read_all(rt.alloc(), &mut disk, &mut journal);
@@ -90,14 +96,14 @@ fn a_journal_of_sixteen_bytes_takes_one_item_of_two(rt: HostRuntime) -> Result<(
     Ok(())
 }
 
-// Opens an area that is `before`, and reads it: the offsets of its items, their bytes joined, and what it is behind that.
+// Opens an area that is `before`, and reads it: the offsets of its items, their bytes joined, and what it is afterwards.
 fn check_reading(
     rt: &impl Abort,
     alloc: Global,
     before: &[u8],
     offsets: &[u64],
     joined: &[u8],
-    behind: &[u8],
+    after: &[u8],
 ) -> Result<(), Fail> {
     let mut disk = MemDisk::new(alloc, 1000, &[])?;
     put(rt, &mut disk, 0, before)?;
@@ -110,12 +116,12 @@ fn check_reading(
         all.extend_from_slice(item.bytes.as_bytes())?;
     }
     assert_eq!(rt; all.as_slice(), joined);
-    assert_eq!(rt; disk.bytes(Area::First), behind);
+    assert_eq!(rt; disk.bytes(Area::First), after);
     Ok(())
 }
 
 #[test]
-fn what_stands_behind_a_closed_gate_is_cut_off(rt: HostRuntime) -> Result<(), Fail> {
+fn what_follows_a_closed_gate_is_cut_off(rt: HostRuntime) -> Result<(), Fail> {
     let one = b"PMDLOG1\n\x01\0\0\0\x01a\0";
     let two = b"PMDLOG1\n\x01\0\0\0\x01a\x01\0\0\0\0\xff";
     check_reading(

@@ -12,7 +12,7 @@ front_grown held n moved now kept =
     ap (λ (k : ℕ). take k now) whole ∙ take-add held n now ∙ ap (λ (l : List ℕ). l ++ take n (drop held now)) kept
     ∙ ap (λ (k : ℕ). take k moved ++ take n (drop held now)) first ∙ ap (λ (k : ℕ). take (held - 0) moved ++ take k (drop held now)) second
 
--- What is left stays as it was: the held bytes are moved to the front, and the source's first ones stand behind them.
+-- What is left stays as it was: the held bytes are moved to the front, and the source's first ones come after them.
 pub left_to-read : (buffer moved now left rest : List ℕ) (start end n : ℕ) → slice_range moved 0 (end - start) ≡ slice_range buffer start end → take (end - start) now ≡ take (end - start) moved → left ≡ slice_range now (end - start) (end - start + n) ++ rest → slice_range now 0 (end - start + n) ++ rest ≡ slice_range buffer start end ++ left
 left_to-read buffer moved now left rest start end n held kept gave =
     ap (λ (l : List ℕ). l ++ rest) (front_grown (end - start) n moved now kept)

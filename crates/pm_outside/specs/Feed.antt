@@ -1,5 +1,7 @@
 -- What a feed holds, and what its calls take of what is left to it and its source (this project's own).
-use Rattle.std.specs.Prelude.{◌≡◌, ◌⊎◌, ◌+◌, ◌-◌, ◌^◌, ◌<◌, ◌≤◌, ℕ, Bool, true, false, List, [], ◌∷◌, ◌++◌, length, take}
+use Rattle.std.specs.Prelude.{Result, Ok, Err, ◌≡◌, ◌⊎◌, ◌+◌, ◌-◌, ◌^◌, ◌<◌, ◌≤◌, ℕ, Bool, true, false, List, [], ◌∷◌, ◌++◌, length, take}
+use Rattle.pm_outside.specs.declared.feed.FeedError.{FeedError}
+use Rattle.pm_outside.specs.declared.feed.FeedError.TheVariants.{Failed, Limit}
 use Rattle.pm_outside.specs.declared.line.Line.{Line}
 use Rattle.pm_outside.specs.declared.line.Line.TheVariants.{Whole, Long, End}
 use Rattle.pm_base.specs.Lines.{MOST_LINE, HasNoLineFeed, HasNoLine}
@@ -19,13 +21,13 @@ left_to feed left = feed.buffered ++ left
 abbrev pub KnowsEnd : FeedState → List ℕ → Type 0
 KnowsEnd feed left = feed.ended ≡ true → left ≡ []
 
--- The first line of the bytes, and what is left behind it. The last line may lack its line feed.
+-- The first line of the bytes, and what is left after it. The last line may lack its line feed.
 pub record IsFirstLine (before line after : List ℕ) : Type 0 where
   pub short : length line ≤ MOST_LINE
   pub one : HasNoLineFeed line
   pub split : (before ≡ line ++ 10 ∷ after) ⊎ ((before ≡ line) × (after ≡ []) × (0 < length line))
 
--- The answer on what is left, the line that is lent then, and what is left behind the call. It is `Whole` exactly where
+-- The answer on what is left, the line that is lent then, and what is left after the call. It is `Whole` exactly where
 -- there is a line of at most `MOST_LINE` bytes, `Long` where there is a longer one, and `End` where nothing is left.
 abbrev pub IsNextLine : List ℕ → Line → List ℕ → List ℕ → Type 0
 IsNextLine before (Whole n) line after = IsFirstLine before line after × (n ≡ length line)
@@ -47,3 +49,21 @@ pub record IsSpent (feed : FeedState) : Type 0 where
   pub unended : feed.ended ≡ false
   pub empty : feed.buffered ≡ []
   pub reached : feed.given ≡ MOST_READ
+
+-- The answer is that the source failed.
+abbrev pub is_failed : {T : Type 0} → Result T FeedError → Bool
+is_failed (Ok value) = false
+is_failed (Err Failed) = true
+is_failed (Err Limit) = false
+
+-- How many bytes a feed holds that weren't taken, at the most.
+abbrev pub MOST_AHEAD : ℕ
+MOST_AHEAD = 65536
+
+-- What a call that reads through a feed keeps, whatever it answers: bytes are taken from what was left, a known end stays
+-- one, all that is taken is within the limit, and little is read ahead.
+pub record ReadsOn (IsTold : Type 0) (old new : FeedState) (left rest : List ℕ) : Type 0 where
+  pub given : IsTold → new.given + length (left_to new rest) ≡ old.given + length (left_to old left)
+  pub knows_end : IsTold → KnowsEnd new rest
+  pub most : new.given ≤ MOST_READ
+  pub ahead : length new.buffered ≤ MOST_AHEAD

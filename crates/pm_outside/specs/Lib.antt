@@ -3,4 +3,5 @@ pub mod Outside
 pub mod Line
 pub mod Feed
 pub mod FeedFields
+pub mod NextLine
 pub mod Memory

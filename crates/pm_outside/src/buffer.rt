@@ -1,6 +1,7 @@
 //! The moves within the buffer of a feed.
 ghost use Rattle.std.specs.Prelude.{◌≡◌, ◌+◌, ◌-◌, ◌<◌, ◌≤◌, ◌++◌, [], vec_len, take, slice_range, IfOk, MatchResult};
-ghost use Rattle.pm_outside.specs.Causes.{HasCause};
+ghost use Rattle.std.specs.Result.{is_err};
+ghost use Rattle.pm_outside.specs.Causes.{faults_after};
 
 use crate::{Failed, Source};
 
@@ -14,8 +15,8 @@ pub fn move_to_front(buffer: &mut Vec<u8>, start: usize, end: usize)
     buffer.copy_within(start..end, 0);
 }
 
-/// Reads at most so many bytes behind the first `at` of the buffer.
-pub fn read_behind<S: Source>(
+/// Reads at most so many bytes after the first `at` of the buffer.
+pub fn read_after<S: Source>(
     source: &mut S,
     buffer: &mut Vec<u8>,
     at: usize,
@@ -27,7 +28,7 @@ pub fn read_behind<S: Source>(
     ensures room { vec_len buffer.new ≡ vec_len buffer.old }
     ensures front { take at buffer.new.items ≡ take at buffer.old.items }
     ensures told { S.IsTold → MatchResult result (λ n. (S.left source.old ≡ slice_range buffer.new.items at (at + n) ++ S.left source.new) × (n ≡ 0 → S.left source.old ≡ [])) (λ _. S.left source.new ≡ S.left source.old) }
-    ensures cause { HasCause (S.faults source.old) (S.faults source.new) result }
+    ensures counted { S.faults source.new ≡ faults_after (is_err result) (S.faults source.old) }
 {
     source.read(&mut buffer[at..at + most])
 }

@@ -5,12 +5,12 @@
 //! most, so every loop over a feed ends.
 ghost use Rattle.std.specs.Prelude.{◌≡◌, ◌+◌, ◌-◌, ◌^◌, ◌<◌, ◌≤◌, ◌⊎◌, ◌↔◌, ℕ, List, true, false, [], ◌++◌, length, vec_len, take, slice_range, min, IfOk, IfErr, OnOk, OnErr, IfSome, IfNone, OnSome, IsErrOf, MatchResult, MatchOption, Some, Ok, Err};
 ghost use Rattle.std.specs.Io.{ReadsAtMost};
-ghost use Rattle.pm_outside.specs.Causes.{Rose};
+ghost use Rattle.pm_outside.specs.Causes.{faults_after};
 ghost use Rattle.pm_outside.specs.Outside.{Gives};
 ghost use Rattle.pm_base.specs.Lines.{HasNoLine, MOST_LINE};
-ghost use Rattle.pm_outside.specs.Feed.{FeedState, left_to, KnowsEnd, IsNextLine, MOST_READ, MeetsLimit, IsSpent};
+ghost use Rattle.pm_outside.specs.Feed.{FeedState, left_to, KnowsEnd, IsNextLine, MOST_READ, MOST_AHEAD, MeetsLimit, IsSpent, is_failed, ReadsOn};
 
-use crate::buffer::{move_to_front, read_behind};
+use crate::buffer::{move_to_front, read_after};
 use crate::copying::copy_front;
 use crate::line::{Found, find_line};
 use crate::{Line, Source};
@@ -20,7 +20,7 @@ use std::marker::Model;
 /// Why a feed doesn't answer.
 #[derive(Clone, Copy, Debug, PartialEq, Eq)]
 pub enum FeedError {
-    /// The source failed, and its count of faults rose.
+    /// The source failed, and counted one fault.
     Failed,
     /// 1,099,511,627,776 bytes were taken from the source, and neither the bytes in the buffer nor a known end of the source
     /// give the answer.
@@ -96,15 +96,13 @@ impl Feed {
         ensures line { S.IsTold → IfOk result (λ line. IsNextLine (left_to self.old (S.left source.old)) line self.new.line (left_to self.new (S.left source.new))) }
         ensures stays { S.IsTold → OnErr result (left_to self.new (S.left source.new) ≡ left_to self.old (S.left source.old)) }
         ensures none_lent { OnErr result (self.new.line ≡ []) }
-        ensures given { S.IsTold → self.new.given + length (left_to self.new (S.left source.new)) ≡ self.old.given + length (left_to self.old (S.left source.old)) }
-        ensures knows_end { S.IsTold → KnowsEnd self.new (S.left source.new) }
+        ensures reads { ReadsOn S.IsTold self.old self.new (S.left source.old) (S.left source.new) }
 
-        // Of any source: each line takes a byte at least, and all of them at most the limit.
+        // Of any source: each line takes a byte at least, and the end stands before the limit.
         ensures takes { (n : ℕ) → result ≡ Ok (Line.Whole n) → self.old.given < self.new.given }
-        ensures most { self.new.given ≤ MOST_READ }
         ensures end { result ≡ Ok Line.End → self.old.given < MOST_READ }
 
-        // A line without its line feed is the last one: the end is known behind it, before the limit.
+        // A line without its line feed is the last one: the end is known after it, before the limit.
         ensures last { (n : ℕ) → result ≡ Ok (Line.Whole n) → self.new.given ≡ self.old.given + n → (self.new.ended ≡ true) × (self.new.given < MOST_READ) }
 
         // The limit comes exactly where it is met.
@@ -114,8 +112,7 @@ impl Feed {
         // What the buffer tells is told, whatever the source does.
         ensures wanted { OnErr result (HasNoLine self.old.buffered × (self.old.ended ≡ false)) }
         ensures open_line { OnErr result (HasNoLine self.new.buffered) }
-        ensures failed { result ≡ Err FeedError.Failed → Rose (S.faults source.old) (S.faults source.new) }
-        ensures later { S.faults source.old ≤ S.faults source.new }
+        ensures counted { S.faults source.new ≡ faults_after (is_failed result) (S.faults source.old) }
     {
         'reads: loop {
             if let Some(line) = self.buffered_line() {
@@ -132,11 +129,9 @@ impl Feed {
         ensures bound { ReadsAtMost result buf.new }
         ensures taken { S.IsTold → Gives (left_to self.old (S.left source.old)) (left_to self.new (S.left source.new)) result buf.new }
         ensures none_lent { self.new.line ≡ [] }
-        ensures given { S.IsTold → self.new.given + length (left_to self.new (S.left source.new)) ≡ self.old.given + length (left_to self.old (S.left source.old)) }
-        ensures knows_end { S.IsTold → KnowsEnd self.new (S.left source.new) }
+        ensures reads { ReadsOn S.IsTold self.old self.new (S.left source.old) (S.left source.new) }
 
-        // Of any source: all bytes that are taken are at most the limit, and the end stands before it.
-        ensures most { self.new.given ≤ MOST_READ }
+        // Of any source: the end stands before the limit.
         ensures end { result ≡ Ok 0 → 0 < length buf.old → self.old.given < MOST_READ }
 
         // The limit comes exactly where it is met.
@@ -145,8 +140,7 @@ impl Feed {
 
         // What the buffer holds is given, whatever the source does.
         ensures wanted { OnErr result ((self.old.buffered ≡ []) × (self.old.ended ≡ false) × (0 < length buf.old)) }
-        ensures failed { result ≡ Err FeedError.Failed → Rose (S.faults source.old) (S.faults source.new) }
-        ensures later { S.faults source.old ≤ S.faults source.new }
+        ensures counted { S.faults source.new ≡ faults_after (is_failed result) (S.faults source.old) }
     {
         self.line = 0;
         self.stop = 0;
@@ -164,13 +158,13 @@ impl Feed {
         ensures stays { S.IsTold → left_to self.new (S.left source.new) ≡ left_to self.old (S.left source.old) }
         ensures given { self.new.given ≡ self.old.given }
         ensures none_lent { self.new.line ≡ [] }
+        ensures ahead { length self.new.buffered ≤ MOST_AHEAD }
         ensures some { OnOk result ((0 < length self.new.buffered) ⊎ (self.new.ended ≡ true)) }
         ensures knows_end { S.IsTold → KnowsEnd self.new (S.left source.new) }
         ensures limit { result ≡ Err FeedError.Limit → IsSpent self.old }
         ensures within { OnOk result (IsSpent self.old → ⊥) }
         ensures wanted { OnErr result ((self.old.buffered ≡ []) × (self.old.ended ≡ false)) }
-        ensures failed { result ≡ Err FeedError.Failed → Rose (S.faults source.old) (S.faults source.new) }
-        ensures later { S.faults source.old ≤ S.faults source.new }
+        ensures counted { S.faults source.new ≡ faults_after (is_failed result) (S.faults source.old) }
     {
         if self.ended || self.start < self.end {
             return Ok(());
@@ -182,6 +176,7 @@ impl Feed {
     fn take_buffered(&mut self, buf: &mut [u8]) -> usize
         ensures within { self.old.given + length self.old.buffered ≤ MOST_READ }
         ensures before_end { self.old.ended ≡ true → self.old.given + length self.old.buffered < MOST_READ }
+        ensures ahead { length self.new.buffered ≤ MOST_AHEAD }
         ensures count { result ≡ min (length self.old.buffered) (length buf.old) }
         ensures moved { self.old.buffered ≡ take result buf.new ++ self.new.buffered }
         ensures given { self.new.given ≡ self.old.given + result }
@@ -196,6 +191,7 @@ impl Feed {
     // The next line, where the bytes in the buffer or the known end of the source tell it.
     #[inline(always)]
     fn buffered_line(&mut self) -> Option<Line>
+        ensures ahead { length self.new.buffered ≤ MOST_AHEAD }
         ensures line { IfSome result (λ line. (rest : List ℕ) → KnowsEnd self.old rest → IsNextLine (left_to self.old rest) line self.new.line (left_to self.new rest)) }
         ensures told { OnSome result ((self.old.ended ≡ true) ⊎ (HasNoLine self.old.buffered → ⊥)) }
         ensures open_line { IfNone result (HasNoLine self.old.buffered) }
@@ -235,14 +231,14 @@ impl Feed {
         ensures stays { S.IsTold → left_to self.new (S.left source.new) ≡ left_to self.old (S.left source.old) }
         ensures given { self.new.given ≡ self.old.given }
         ensures none_lent { self.new.line ≡ [] }
+        ensures ahead { length self.new.buffered ≤ MOST_AHEAD }
         ensures grown { OnOk result ((length self.old.buffered < length self.new.buffered) ⊎ ((self.new.ended ≡ true) × (length self.new.buffered ≡ length self.old.buffered))) }
         ensures unchanged { OnErr result (self.new ≡ self.old) }
         ensures within { OnOk result (self.old.given + length self.old.buffered < MOST_READ) }
         ensures knows_end { S.IsTold → KnowsEnd self.new (S.left source.new) }
         ensures before_limit { self.new.ended ≡ true → self.new.given + length self.new.buffered < MOST_READ }
         ensures limit { result ≡ Err FeedError.Limit → self.old.given + length self.old.buffered ≡ MOST_READ }
-        ensures failed { result ≡ Err FeedError.Failed → Rose (S.faults source.old) (S.faults source.new) }
-        ensures later { S.faults source.old ≤ S.faults source.new }
+        ensures counted { S.faults source.new ≡ faults_after (is_failed result) (S.faults source.old) }
     {
         if self.read >= MOST {
             return Err(FeedError::Limit);
@@ -253,7 +249,7 @@ impl Feed {
         self.line = 0;
         self.stop = 0;
         let room = (ROOM - self.end).min((MOST - self.read) as usize);
-        match read_behind(source, &mut self.buffer, self.end, room) {
+        match read_after(source, &mut self.buffer, self.end, room) {
             Ok(count) => {
                 self.end += count;
                 self.read += count as u64;

@@ -5,6 +5,7 @@ mod buffer;
 mod copying;
 mod feed;
 mod line;
+mod lines;
 mod outside;
 mod sink;
 mod source;
@@ -13,6 +14,7 @@ mod tests;
 
 pub use feed::{Feed, FeedError};
 pub use line::Line;
+pub use lines::{NextLine, next_line};
 pub use outside::{Failed, Sink, Source};
 pub use sink::MemSink;
 pub use source::MemSource;

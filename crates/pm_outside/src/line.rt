@@ -32,7 +32,7 @@ pub enum Found {
     Unknown,
 }
 
-/// The next line of these bytes, behind which none follow where the end is known.
+/// The next line of these bytes. None follow them where the end is known.
 #[inline(always)]
 pub fn find_line(held: &[u8], ended: bool) -> Found
     ensures { FindsLine held.now ended result }

@@ -2,12 +2,13 @@
 //!
 //! Content is told per type: the clauses on content hold where `IsTold` does, which is so for the implementations in
 //! memory and for no real file, socket or terminal. The clauses on faults hold for all.
-ghost use Rattle.std.specs.Prelude.{List, ℕ};
+ghost use Rattle.std.specs.Prelude.{◌≡◌, List, ℕ};
 ghost use Rattle.std.specs.Io.{ReadsAtMost};
-ghost use Rattle.pm_outside.specs.Causes.{HasCause};
+ghost use Rattle.std.specs.Result.{is_err};
+ghost use Rattle.pm_outside.specs.Causes.{faults_after};
 ghost use Rattle.pm_outside.specs.Outside.{Gives, Takes};
 
-/// An object of the outside failed, and its count of faults rose.
+/// An object of the outside failed, and counted one fault.
 #[derive(Clone, Copy, Debug, PartialEq, Eq)]
 pub struct Failed;
 
@@ -19,7 +20,7 @@ pub trait Source {
     /// The bytes that are left, first to last.
     ghost left: { Self → List ℕ };
 
-    /// How often it has failed. The number never falls.
+    /// How often it has failed, up to 18,446,744,073,709,551,615.
     ghost faults: { Self → ℕ };
 
     /// Moves the first bytes that are left into the front of the buffer, and answers how many: none only at the end or
@@ -27,7 +28,7 @@ pub trait Source {
     fn read(&mut self, buf: &mut [u8]) -> Result<usize, Failed>
         ensures bound { ReadsAtMost result buf.new }
         ensures told { IsTold → Gives (left self.old) (left self.new) result buf.new }
-        ensures cause { HasCause (faults self.old) (faults self.new) result };
+        ensures counted { faults self.new ≡ faults_after (is_err result) (faults self.old) };
 }
 
 /// A sink for bytes, as a file, a connection or the standard output.
@@ -38,11 +39,11 @@ pub trait Sink {
     /// The bytes written, first to last.
     ghost written: { Self → List ℕ };
 
-    /// How often it has failed. The number never falls.
+    /// How often it has failed, up to 18,446,744,073,709,551,615.
     ghost faults: { Self → ℕ };
 
     /// Appends all of the bytes. A call that fails has appended some of the first of them, maybe none.
     fn put(&mut self, bytes: &[u8]) -> Result<(), Failed>
         ensures told { IsTold → Takes (written self.old) (written self.new) result bytes.now }
-        ensures cause { HasCause (faults self.old) (faults self.new) result };
+        ensures counted { faults self.new ≡ faults_after (is_err result) (faults self.old) };
 }

@@ -18,12 +18,12 @@ pub struct MemSource {
 }
 
 impl MemSource {
-    ghost use Rattle.pm_outside.specs.Memory.{source_left, source_faults, source_fails};
+    ghost use Rattle.pm_outside.specs.Memory.{source_left, source_faults, source_fails, source_calls};
 
     /// A source with these bytes, of whose calls those of these numbers fail, counted from 1.
     pub fn new(alloc: Global, bytes: &[u8], fails: &[u64]) -> Result<MemSource, AllocError>
         ensures content { IfOk result (λ source. (source_left source ≡ bytes.now) × (source_faults source ≡ 0)) }
-        ensures fails { IfOk result (λ source. source_fails source ≡ fails.now) }
+        ensures fails { IfOk result (λ source. (source_fails source ≡ fails.now) × (source_calls source ≡ 0)) }
     {
         Ok(MemSource {
             bytes: Vec::from_slice(alloc, bytes)?,
@@ -50,13 +50,30 @@ impl MemSource {
 }
 
 impl Source for MemSource {
+    ghost use Rattle.std.specs.Prelude.{◌↔◌, IsErr};
+    ghost use Rattle.std.specs.Io.{ReadsAtMost};
+    ghost use Rattle.std.specs.Result.{is_err};
+    ghost use Rattle.pm_outside.specs.Causes.{faults_after};
+    ghost use Rattle.pm_outside.specs.Outside.{Gives};
+    ghost use Rattle.pm_outside.specs.Memory.{source_left, source_faults, source_fails, source_calls, next_call, IsReadToFail};
+
     ghost IsTold = { Unit {0} };
 
     ghost left = { λ s. drop s.at s.bytes.items };
 
     ghost faults = { λ s. s.faults };
 
-    fn read(&mut self, buf: &mut [u8]) -> Result<usize, Failed> {
+    fn read(&mut self, buf: &mut [u8]) -> Result<usize, Failed>
+        ensures bound { ReadsAtMost result buf.new }
+        ensures told { Gives (source_left self.old) (source_left self.new) result buf.new }
+        ensures counted { source_faults self.new ≡ faults_after (is_err result) (source_faults self.old) }
+
+        // It fails exactly by its number, and else gives as much as there is room for.
+        ensures exact { IsErr result ↔ IsReadToFail self.old }
+        ensures whole { IfOk result (λ n. n ≡ min (length (source_left self.old)) (length buf.old)) }
+        ensures number { source_calls self.new ≡ next_call (source_calls self.old) }
+        ensures plan { source_fails self.new ≡ source_fails self.old }
+    {
         self.calls = self.calls.saturating_add(1);
         if self.fails.contains(&self.calls) {
             self.faults = self.faults.saturating_add(1);

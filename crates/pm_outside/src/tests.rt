@@ -42,7 +42,7 @@ fn a_sink_in_memory_fails_by_number_and_by_room(rt: HostRuntime) -> Result<(), F
 }
 
 #[test]
-fn a_feed_goes_on_behind_a_failed_read(rt: HostRuntime) -> Result<(), Fail> {
+fn a_feed_goes_on_after_a_failed_read(rt: HostRuntime) -> Result<(), Fail> {
     let mut source = MemSource::new(rt.alloc(), b"end\n\nlast", &[2])?;
     let mut feed = Feed::new(rt.alloc())?;
     assert_eq!(rt; feed.line(&mut source), Ok(Line::Whole { length: 3 }));

@@ -3,7 +3,7 @@ ghost use Rattle.std.specs.Prelude.{◌<◌};
 
 use crate::tally::compare;
 use pm_base::Code;
-use pm_top::Status;
+use pm_tally::TallyEnd;
 use std::alloc::AllocError;
 use std::test::Fail;
 
@@ -88,12 +88,12 @@ struct Ends {
 }
 
 impl Ends {
-    fn count(&mut self, status: Status) {
-        let count = match status {
-            Status::Done => &mut self.done,
-            Status::BadInput { code: Code::E1, .. } => &mut self.malformed,
-            Status::BadInput { code: Code::E2, .. } => &mut self.unknown,
-            Status::BadInput { code: Code::E3, .. } => &mut self.great,
+    fn count(&mut self, end: TallyEnd) {
+        let count = match end {
+            TallyEnd::Done => &mut self.done,
+            TallyEnd::Refused { code: Code::E1, .. } => &mut self.malformed,
+            TallyEnd::Refused { code: Code::E2, .. } => &mut self.unknown,
+            TallyEnd::Refused { code: Code::E3, .. } => &mut self.great,
             _ => return,
         };
         *count = count.saturating_add(1);
@@ -114,7 +114,7 @@ fn the_program_tallies_as_the_plain_tally_does(rt: HostRuntime) -> Result<(), Fa
         inventory(&mut text, &mut numbers)?;
         events(&mut text, &mut numbers)?;
         let plain = compare(&rt, rt.alloc(), text.as_bytes(), at)?;
-        ends.count(plain.status);
+        ends.count(plain.end);
     }
     assert!(rt; ends.done > 50, "{} had no refusal", ends.done);
     assert!(rt; ends.malformed > 9, "{} had E1", ends.malformed);

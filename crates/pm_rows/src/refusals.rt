@@ -21,7 +21,7 @@ fn ends(
     let given = spelled(alloc, input)?;
     let written = spelled(alloc, output)?;
     let plain = compare(rt, alloc, given.as_bytes(), 0)?;
-    assert_eq!(rt; plain.status, status, "at {input:?}");
+    assert_eq!(rt; Status::from(plain.end), status, "at {input:?}");
     assert_eq!(rt; plain.text.as_bytes(), written.as_bytes(), "at {input:?}");
     Ok(())
 }
@@ -32,7 +32,7 @@ fn refuses(rt: &impl Abort, alloc: Global, lines: &str, line: u64, code: Code) -
     ends(rt, alloc, &input, Status::BadInventory { line, code }, "")
 }
 
-// The name of an object behind ManagedElement=ME1.
+// The name of an object after ManagedElement=ME1.
 const NAMES: [(&str, Code); 8] = [
     ("", Code::N1),
     ("GNBDUFunction", Code::N2),
@@ -58,7 +58,7 @@ fn a_name_of_an_object_is_refused_at_its_line(rt: HostRuntime) -> Result<(), Fai
     refuses(&rt, alloc, &lines, 2, Code::N4)
 }
 
-// The words of a measurement behind A.b.
+// The words of a measurement after A.b.
 const MEASURES: [(&str, Code); 4] = [
     ("A.c NRCellCU CC", Code::I1),
     ("RRC NRCellCU CC SUM", Code::M1),

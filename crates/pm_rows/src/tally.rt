@@ -3,7 +3,8 @@ ghost use Rattle.std.specs.Prelude.{List, [], ◌≤◌};
 
 use pm_base::Code;
 use pm_outside::{Failed, Feed, Line, MemSink, MemSource, Source};
-use pm_top::{PlainTally, Status, plain_tally, pmd};
+use pm_tally::{PlainTally, plain_tally};
+use pm_top::{Status, pmd};
 use std::alloc::{AllocError, Global};
 use std::process::Abort;
 use std::test::Fail;
@@ -131,7 +132,7 @@ pub fn compare(
         let mut sink = MemSink::new(alloc, ROOM, &[])?;
         assert_eq!(rt;
             pmd(alloc, &tally, &mut source, &mut sink),
-            plain.status,
+            Status::from(plain.end),
             "row {at} by {most}"
         );
         assert_eq!(rt; sink.written(), plain.text.as_bytes(), "row {at} by {most}");
@@ -168,7 +169,7 @@ fn each_input_is_tallied_as_it_is_defined(rt: HostRuntime) -> Result<(), Fail> {
             Some((place, code)) => Status::BadInput { place, code },
         };
         assert_eq!(rt;
-            compare(&rt, alloc, given.as_bytes(), at)?.status,
+            Status::from(compare(&rt, alloc, given.as_bytes(), at)?.end),
             want,
             "row {at}"
         );
@@ -184,13 +185,13 @@ fn a_line_of_2049_bytes_has_not_the_form(rt: HostRuntime) -> Result<(), Fail> {
         let metric = "x".repeat(alloc, bytes)?;
         let line = format!(in alloc; "end\n60 {CELL} {metric} 1\n")?;
         let want = Status::BadInput { place: 2, code };
-        assert_eq!(rt; compare(&rt, alloc, line.as_bytes(), bytes)?.status, want);
+        assert_eq!(rt; Status::from(compare(&rt, alloc, line.as_bytes(), bytes)?.end), want);
     }
     Ok(())
 }
 
 #[test]
-fn faults_end_a_tally_behind_the_lines_of_ended_ticks(rt: HostRuntime) -> Result<(), Fail> {
+fn faults_end_a_tally_after_the_lines_of_ended_ticks(rt: HostRuntime) -> Result<(), Fail> {
     let alloc = rt.alloc();
     let input = spelled(alloc, "end\n60 c7 Att 1\n120 c7 Att 2\n")?;
     let written = spelled(alloc, "60 c7 Att 1\n")?;

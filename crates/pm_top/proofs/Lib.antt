@@ -1,13 +1,1 @@
-pub mod TallyLemmas
-pub mod CountingLemmas
-pub mod LinesLemmas
-pub mod TextLemmas
-pub mod WholeLemmas
-pub mod TakingLemmas
-pub mod Progress
-pub mod EndLemmas
 pub mod WordsLemmas
-pub mod OutcomeLemmas
-pub mod PlainLemmas
-pub mod LastWordLemmas
-pub mod ReaderLemmas

@@ -1,10 +1,4 @@
 pub mod Exit
-pub mod Tally
-pub mod Counting
-pub mod Taking
-pub mod Next
-pub mod Finishing
-pub mod Outcome
 pub mod Words
 pub mod StatusText
-pub mod Plain
+pub mod Ends

@@ -1,14 +1,16 @@
 //! The top call of the program.
-ghost use Rattle.std.specs.Prelude.{◌≡◌, ◌↔◌, ◌≤◌, IsTrue};
-ghost use Rattle.pm_outside.specs.Causes.{Rose};
+ghost use Rattle.std.specs.Prelude.{◌≡◌, ◌↔◌, IsTrue};
+ghost use Rattle.pm_outside.specs.Causes.{faults_after};
+ghost use Rattle.pm_tally.specs.Outcome.{ran, IsOutcome};
 ghost use Rattle.pm_top.specs.Words.{AreTally};
-ghost use Rattle.pm_top.specs.Outcome.{IsOutcome};
+ghost use Rattle.pm_top.specs.Ends.{IsStatusOf, is_read_fault, is_write_fault};
 
-use crate::{Status, tally};
+use crate::Status;
 use pm_outside::{Sink, Source};
+use pm_tally::tally;
 use std::alloc::Global;
 
-/// Does all that the program does, by the words behind its name: `tally` reads an inventory and lines of events from the
+/// Does all that the program does, by the words after its name: `tally` reads an inventory and lines of events from the
 /// input and writes their tally.
 pub fn pmd<S: Source, K: Sink>(
     alloc: Global,
@@ -19,15 +21,14 @@ pub fn pmd<S: Source, K: Sink>(
     ensures usage { (result ≡ Status.Usage) ↔ ¬ AreTally words.now }
     ensures usage_reads { result ≡ Status.Usage → S.left input.new ≡ S.left input.old }
     ensures usage_writes { result ≡ Status.Usage → K.written output.new ≡ K.written output.old }
-    ensures tally { AreTally words.now → S.IsTold → IsOutcome (S.left input.old) (S.left input.new) K.IsTold (K.written output.old) (K.written output.new) result }
+    ensures tally { AreTally words.now → S.IsTold → IsStatusOf (IsOutcome (ran 0 (S.left input.old) (S.left input.new) K.IsTold (K.written output.old) (K.written output.new))) result }
 
-    // Faults of the outside.
-    ensures read { result ≡ Status.ReadFault → Rose (S.faults input.old) (S.faults input.new) }
-    ensures write { result ≡ Status.WriteFault → Rose (K.faults output.old) (K.faults output.new) }
-    ensures later { (S.faults input.old ≤ S.faults input.new) × (K.faults output.old ≤ K.faults output.new) }
+    // A fault is counted exactly where the status names it.
+    ensures read { S.faults input.new ≡ faults_after (is_read_fault result) (S.faults input.old) }
+    ensures write { K.faults output.new ≡ faults_after (is_write_fault result) (K.faults output.old) }
 {
     if is_tally(words) {
-        tally(alloc, input, output)
+        Status::from(tally(alloc, input, output))
     } else {
         Status::Usage
     }

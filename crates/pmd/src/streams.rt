@@ -69,7 +69,9 @@ impl<W: Write + Drop> Sink for Writing<W> {
 #[cfg(test)]
 mod tests {
     use super::*;
+    use std::fs::File;
     use std::io::Cursor;
+    use std::test::Fail;
 
     #[test]
     fn a_reader_is_read_and_a_full_writer_is_a_counted_fault(rt: HostRuntime) {
@@ -84,5 +86,17 @@ mod tests {
         assert_eq!(rt; output.put(b"12"), Ok(()));
         assert_eq!(rt; output.put(b"345"), Err(Failed));
         assert_eq!(rt; output.faults, 1);
+    }
+
+    #[test]
+    fn a_folder_is_no_input_and_a_full_device_no_output(rt: HostRuntime) -> Result<(), Fail> {
+        let mut input = Reading::new(File::open(&rt, ".")?);
+        let mut buf = [0u8; 8];
+        assert_eq!(rt; input.read(&mut buf), Err(Failed));
+        assert_eq!(rt; input.faults, 1);
+        let mut output = Writing::new(File::options().write(true).open(&rt, "/dev/full")?);
+        assert_eq!(rt; output.put(b"1"), Err(Failed));
+        assert_eq!(rt; output.faults, 1);
+        Ok(())
     }
 }

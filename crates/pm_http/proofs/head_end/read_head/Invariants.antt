@@ -1,5 +1,5 @@
-use Rattle.std.proofs.Common.{◌≡◌, ◌+◌, ◌-◌, ◌<◌, ◌≤◌, length, vec_len}
-use Rattle.pm_outside.specs.Feed.{left_to, KnowsEnd}
+use Rattle.std.proofs.Common.{◌≡◌, ◌-◌, ◌<◌, vec_len}
+use Rattle.pm_outside.specs.Feed.{left_to, ReadsOn}
 use Rattle.pm_http.specs.Piece.{Gathers, IsBegun}
 use Rattle.pm_http.proofs.head_end.read_head.Given as goal
 
@@ -8,9 +8,8 @@ invariant-pieces g l = record {
   few : vec_len l.head < 16384;
   begun : g.S.Source.IsTold → IsBegun l.begun l.head.items;
   gathers : g.S.Source.IsTold → Gathers (left_to l.initial.feed (g.S.Source.left l.initial.source)) l.head.items (left_to l.feed (g.S.Source.left l.source));
-  given : g.S.Source.IsTold → l.feed.given + length (left_to l.feed (g.S.Source.left l.source)) ≡ l.initial.feed.given + length (left_to l.initial.feed (g.S.Source.left l.initial.source));
-  knows_end : g.S.Source.IsTold → KnowsEnd l.feed (g.S.Source.left l.source);
-  later : g.S.Source.faults l.initial.source ≤ g.S.Source.faults l.source;
+  reads : ReadsOn g.S.Source.IsTold l.initial.feed l.feed (g.S.Source.left l.initial.source) (g.S.Source.left l.source);
+  counted : g.S.Source.faults l.source ≡ g.S.Source.faults l.initial.source;
 }
 
 abbrev pub decreases-pieces : goal.decreases-pieces

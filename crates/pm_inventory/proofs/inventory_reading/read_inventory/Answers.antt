@@ -25,11 +25,11 @@ pub lines-preserved : goal.lines-preserved
 lines-preserved g c =
     let takes = c.line.ensures.takes c.in-Ok-Whole.field-0-0 (c.in-Ok-Whole.is ∙ ap (λ (l : Line). Ok l) c.in-Ok-Whole.field-0-is) in
     record {
-      later = omega (arith, c.lines.invariant.later, c.line.ensures.later);
-      knows_end = c.line.ensures.knows_end;
-      given = λ told. c.line.ensures.given told ∙ c.lines.invariant.given told;
+      counted = c.in-Ok-Whole.ensures.counted ∙ c.lines.invariant.counted;
+      knows_end = c.line.ensures.reads.knows_end;
+      given = λ told. c.line.ensures.reads.given told ∙ c.lines.invariant.given told;
       few = omega (arith, c.lines.invariant.few, takes);
-      most = omega (arith, c.lines.invariant.few, c.line.ensures.most, takes);
+      most = omega (arith, c.lines.invariant.few, c.line.ensures.reads.most, takes);
       so_far = λ told.
           let before = left_to c.lines.feed (g.S.Source.left c.lines.source) in
           let after = left_to c.line.new.self (g.S.Source.left c.line.new.source) in

@@ -5,7 +5,7 @@ use Rattle.pm_inventory.proofs.inventory_reading.read_inventory.Given as goal
 
 abbrev pub invariant-lines : goal.invariant-lines
 invariant-lines g l = record {
-  later : g.S.Source.faults l.initial.source ≤ g.S.Source.faults l.source;
+  counted : g.S.Source.faults l.source ≡ g.S.Source.faults l.initial.source;
   knows_end : g.S.Source.IsTold → KnowsEnd l.feed (g.S.Source.left l.source);
   given : g.S.Source.IsTold → l.feed.given + length (left_to l.feed (g.S.Source.left l.source)) ≡ l.initial.feed.given + length (left_to l.initial.feed (g.S.Source.left l.initial.source));
   few : l.good ≤ l.feed.given;

@@ -1,5 +1,7 @@
 use Rattle.std.proofs.Common.{◌≡◌, ◌+◌, ◌++◌, ℕ, List, length, take, drop, ap, sym, ◌∙◌, subst, arith, length-drop}
 use Rattle.std.proofs.lemmas.List.{take_at}
+use Rattle.std.proofs.lemmas.Result.{err_from_is_err_and}
+use Rattle.pm_journal.proofs.ListLemmas.{found_item}
 use Rattle.pm_disk.specs.Moments.{Told, of}
 use Rattle.pm_journal.specs.Items.{IsItem}
 use Rattle.pm_journal.proofs.ReadingLemmas.{cut_short_of_few, cut_short_of_size, item_read}
@@ -30,3 +32,14 @@ returns-clause-item g c = λ told.
     (omega (arith, length-drop c.args.at seen, c.if-end-at.false, c.if-end-at-lt5.false, c.requires.told told)) is in
     let whole : take c.in_ok-bytes.bytes.len (buf ++ drop (length buf) c.in_ok-bytes.bytes.items) ≡ buf = take_at buf (drop (length buf) c.in_ok-bytes.bytes.items) c.in_ok-bytes.bytes.len (omega (arith, c.read-2.auto.buf, long, c.in_ok-bytes.ensures.len)) in
     (item.0, subst (λ (l : List ℕ). IsItem (drop c.args.at seen) l item.0) (sym whole) item.1)
+
+pub returns-in_err-bytes-clause-refused : goal.returns-in_err-bytes-clause-refused
+returns-in_err-bytes-clause-refused g c =
+    let seen = (of (g.D.Disk.told c.args.disk.now).now c.args.area).seen in
+    let e = err_from_is_err_and c.from_residual-in_err-bytes.result c.from_residual-in_err-bytes.ensures.1 in
+    rw (e.1, e.2) (λ told. (
+      _,
+      _,
+      found_item (drop c.args.at seen) c.size_of_bytes-count.result (c.size_of_bytes-count.ensures ∙ c.in_ok-read.ensures.bytes told) c.size_of_bytes-count.type_inv
+          (omega (arith, length-drop c.args.at seen, c.if-end-at.false, c.if-end-at-lt5.false, c.requires.told told)),
+    ))

@@ -1,7 +1,9 @@
 use Rattle.std.proofs.Common.{Ok, Err, false, true, refl, arith, length, length-take, ap}
 use Rattle.pm_outside.specs.declared.outside.Failed.{Failed}
 use Rattle.pm_disk.specs.Contents.{content}
-use Rattle.pm_disk.proofs.MadeLemmas.{reads_cut, small_on, small_same, step_cut}
+use Rattle.pm_disk.proofs.MadeLemmas.{tells_begun, reads_cut, small_on, small_same, step_cut}
+use Rattle.pm_disk.specs.Made.{CutTo}
+use Rattle.pm_disk.specs.Memory.{IsFull}
 use Rattle.pm_disk.proofs.memory.MemDiskDisk.cut.Goals as goal
 
 pub invariant_of-self-then-is_to_fail-clause-reads : goal.invariant_of-self-then-is_to_fail-clause-reads
@@ -23,3 +25,9 @@ invariant_of-self-2-clause-small c =
 
 pub returns-clause-told : goal.returns-clause-told
 returns-clause-told c = step_cut {E = Failed} c.args.area c.args.to true (Ok tt) _ _ c.add-2.ensures.added refl
+
+pub returns-then-is_to_fail-clause-tells : goal.returns-then-is_to_fail-clause-tells
+returns-then-is_to_fail-clause-tells c = tells_begun (IsFull c.args.self.now) (CutTo c.args.area c.args.to) (Err c.fail-then-is_to_fail.result) _ _ (grind (arith, c.if-is_past.ensures.past)) c.add.ensures.added
+
+pub returns-clause-tells : goal.returns-clause-tells
+returns-clause-tells c = tells_begun {E = Failed} (IsFull c.args.self.now) (CutTo c.args.area c.args.to) (Ok tt) _ _ (grind (arith, c.if-is_past.ensures.past)) c.add-2.ensures.added

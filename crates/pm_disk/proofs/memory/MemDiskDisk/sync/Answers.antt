@@ -1,7 +1,10 @@
-use Rattle.std.proofs.Common.{Ok, Err, not, ap, arith}
+use Rattle.std.proofs.Common.{Bool, [], ◌∷◌, ◌++◌, Ok, Err, not, ap, ◌∙◌, arith}
 use Rattle.pm_outside.specs.declared.outside.Failed.{Failed}
 use Rattle.pm_disk.specs.Contents.{content}
-use Rattle.pm_disk.proofs.MadeLemmas.{reads_synced, step_sync, small_same}
+use Rattle.pm_disk.proofs.MadeLemmas.{tells_begun, reads_synced, step_sync, small_same}
+use Rattle.pm_disk.specs.Made.{Synced}
+use Rattle.pm_disk.specs.Record.{made}
+use Rattle.pm_disk.specs.Memory.{IsFull}
 use Rattle.pm_disk.proofs.memory.MemDiskDisk.sync.Goals as goal
 
 pub invariant_of-self-then-not-done-clause-reads : goal.invariant_of-self-then-not-done-clause-reads
@@ -21,3 +24,9 @@ returns-then-not-done-clause-told c = step_sync c.args.area _ (Err c.fail-then-n
 
 pub returns-clause-told : goal.returns-clause-told
 returns-clause-told c = step_sync {E = Failed} c.args.area _ (Ok tt) _ _ c.add.ensures.added (ap not c.if-not-done.false) tt
+
+pub returns-then-not-done-clause-tells : goal.returns-then-not-done-clause-tells
+returns-then-not-done-clause-tells c = tells_begun (IsFull c.args.self.now) (Synced c.args.area) (Err c.fail-then-not-done.result) _ _ (grind (arith, c.if-is_past.ensures.past)) (c.add.ensures.added ∙ ap (λ (b : Bool). made c.args.self.now.calls ++ Synced c.args.area b ∷ []) (ap not c.if-not-done.true))
+
+pub returns-clause-tells : goal.returns-clause-tells
+returns-clause-tells c = tells_begun {E = Failed} (IsFull c.args.self.now) (Synced c.args.area) (Ok tt) _ _ (grind (arith, c.if-is_past.ensures.past)) (c.add.ensures.added ∙ ap (λ (b : Bool). made c.args.self.now.calls ++ Synced c.args.area b ∷ []) (ap not c.if-not-done.false))

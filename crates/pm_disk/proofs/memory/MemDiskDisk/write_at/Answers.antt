@@ -1,7 +1,9 @@
-use Rattle.std.proofs.Common.{Ok, Err, ◌≤◌, false, true, refl, arith, length, ap}
+use Rattle.std.proofs.Common.{inr, Ok, Err, ◌≤◌, false, true, refl, arith, length, ap}
 use Rattle.pm_outside.specs.declared.outside.Failed.{Failed}
 use Rattle.pm_disk.specs.Contents.{content}
-use Rattle.pm_disk.proofs.MadeLemmas.{reads_looked, replayed_looked, reads_wrote, small_on, small_same, refused_write, step_write, length-overwritten_le}
+use Rattle.pm_disk.proofs.MadeLemmas.{tells_begun, tells_refused, reads_looked, replayed_looked, reads_wrote, small_on, small_same, refused_write, step_write, length-overwritten_le}
+use Rattle.pm_disk.specs.Made.{Wrote}
+use Rattle.pm_disk.specs.Memory.{IsRefused}
 use Rattle.pm_disk.proofs.memory.MemDiskDisk.write_at.Goals as goal
 
 pub invariant_of-self-then-bytes-spare-clause-reads : goal.invariant_of-self-then-bytes-spare-clause-reads
@@ -35,3 +37,15 @@ invariant_of-self-2-clause-small c =
 
 pub returns-clause-told : goal.returns-clause-told
 returns-clause-told c = step_write {E = Failed} c.args.area c.args.at c.args.bytes.now true (Ok tt) _ _ c.add_write-2.ensures.added refl
+
+pub returns-then-bytes-spare-clause-tells : goal.returns-then-bytes-spare-clause-tells
+returns-then-bytes-spare-clause-tells c =
+    tells_refused (IsRefused c.args.self.now (length c.args.bytes.now)) (Wrote c.args.area c.args.at c.args.bytes.now) (Err c.fail-then-bytes-spare.result) _ _ (inr (omega arith)) c.add.ensures.added
+
+pub returns-then-is_to_fail-clause-tells : goal.returns-then-is_to_fail-clause-tells
+returns-then-is_to_fail-clause-tells c =
+    tells_begun (IsRefused c.args.self.now (length c.args.bytes.now)) (Wrote c.args.area c.args.at c.args.bytes.now) (Err c.fail-then-is_to_fail.result) _ _ (grind (arith, c.if-is_past.ensures.past)) c.add_write.ensures.added
+
+pub returns-clause-tells : goal.returns-clause-tells
+returns-clause-tells c =
+    tells_begun {E = Failed} (IsRefused c.args.self.now (length c.args.bytes.now)) (Wrote c.args.area c.args.at c.args.bytes.now) (Ok tt) _ _ (grind (arith, c.if-is_past.ensures.past)) c.add_write-2.ensures.added

@@ -1,5 +1,5 @@
 use Rattle.std.proofs.Common.{◌++◌, [], ◌∷◌, refl, arith}
-use Rattle.pm_journal.proofs.AppendingLemmas.{either_at_rest, at_grown, length_at_end}
+use Rattle.pm_journal.proofs.AppendingLemmas.{either_at_rest, grown_is, at_grown, length_at_end}
 use Rattle.pm_journal.proofs.TiedLemmas.{at_ready}
 use Rattle.pm_journal.proofs.journal.Journal.append.Goals as goal
 
@@ -20,3 +20,10 @@ returns-in-Ok-clause-tied g c = λ told.
     let end = at.ready c.requires.ready in
     let stored = c.in-Ok.ensures.stored told tied.0 end (omega (arith, at.length, length_at_end _ tied.0 end)) in
     (tied.0 ++ c.args.bytes.now ∷ [], [], at_grown c.args.self.now _ _ _ tied.0 c.args.bytes.now at c.requires.ready (omega (arith, c.if-need-self.false, c.args.self.now.small)) stored refl (omega arith))
+
+pub returns-in-Ok-clause-grown : goal.returns-in-Ok-clause-grown
+returns-in-Ok-clause-grown g c = λ told.
+    let tied = c.requires.tied told in
+    let at = at_ready _ _ tied.0 tied.1 tied.2 c.requires.ready in
+    let end = at.ready c.requires.ready in
+    grown_is c.args.self.now.at _ tied.0 c.args.bytes.now _ end at.gate (c.in-Ok.ensures.stored told tied.0 end (omega (arith, at.length, length_at_end _ tied.0 end)))

@@ -1,5 +1,5 @@
 use Rattle.std.proofs.Common.{refl, []}
-use Rattle.pm_journal.proofs.ReadingLemmas.{list_ended, keeps_cutting}
+use Rattle.pm_journal.proofs.NextLemmas.{list_ended, keeps_cutting}
 use Rattle.pm_journal.proofs.journal.Journal.end.Goals as goal
 
 pub returns-in-Ok-clause-next : goal.returns-in-Ok-clause-next

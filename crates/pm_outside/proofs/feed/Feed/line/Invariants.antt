@@ -1,11 +1,11 @@
-use Rattle.std.proofs.Common.{◌≡◌, ◌+◌, ◌-◌, ◌*◌, ◌≤◌, ◌<◌, ◌⊎◌, true, false, cond, length}
+use Rattle.std.proofs.Common.{◌≡◌, ◌+◌, ◌-◌, ◌*◌, ◌<◌, ◌⊎◌, true, false, cond, length}
 use Rattle.pm_base.specs.Lines.{HasNoLine}
 use Rattle.pm_outside.specs.Feed.{left_to, KnowsEnd, MOST_READ}
 use Rattle.pm_outside.proofs.feed.Feed.line.Given as goal
 
 abbrev pub invariant-reads : goal.invariant-reads
 invariant-reads g l = record {
-  later : g.S.Source.faults l.initial.source ≤ g.S.Source.faults l.source;
+  counted : g.S.Source.faults l.source ≡ g.S.Source.faults l.initial.source;
   given : l.self.given ≡ l.initial.self.given;
   stays : g.S.Source.IsTold → left_to l.self (g.S.Source.left l.source) ≡ left_to l.initial.self (g.S.Source.left l.initial.source);
   knows_end : g.S.Source.IsTold → KnowsEnd l.self (g.S.Source.left l.source);

@@ -1,0 +1,6 @@
+use Rattle.pm_http.specs.Reply.{body_fields}
+use Rattle.pm_http.proofs.replying.pass_body_fields.Goals as goal
+
+pub returns-clause-on : goal.returns-clause-on
+unfolding body_fields
+returns-clause-on g c = λ told start text way. rw (c.as_bytes.ensures.value, c.format.ensures.text) at (c.pass_line.ensures.on told start text way)

@@ -1,0 +1,10 @@
+pub mod TallyLemmas
+pub mod CountingLemmas
+pub mod LinesLemmas
+pub mod TextLemmas
+pub mod WholeLemmas
+pub mod TakingLemmas
+pub mod Progress
+pub mod EndLemmas
+pub mod OutcomeLemmas
+pub mod PlainLemmas
