@@ -1,6 +1,6 @@
 //! What the words of a job or a monitor ask for.
 use crate::words::{number, numbers, split};
-use pm_base::Class;
+use pm_base::{CLASSES, Class};
 use pm_history::Metric;
 use pm_inventory::Inventory;
 use pm_meas::Kind;
@@ -12,15 +12,6 @@ const MAX_THRESHOLD: u64 = 9_007_199_254_740_991;
 
 /// The most thresholds of a monitor.
 const MAX_THRESHOLDS: usize = 16;
-
-// The classes in byte order of their names.
-const CLASSES: [Class; 5] = [
-    Class::GnbCuCp,
-    Class::GnbDu,
-    Class::ManagedElement,
-    Class::NrCellCu,
-    Class::NrCellDu,
-];
 
 /// A granularity period in seconds, as its number of ticks.
 pub(crate) fn granularity(word: &[u8]) -> Option<u32> {

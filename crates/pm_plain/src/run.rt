@@ -19,26 +19,9 @@ struct Past {
     last: Option<u64>,
 }
 
-// Whether an entry may stand behind one of another moment.
-fn is_opening(entry: &Entry) -> bool {
-    match entry {
-        Entry::Boot { .. } | Entry::Now { .. } => true,
-        _ => false,
-    }
-}
-
-// Whether a history whose last moment is this permits the entry next.
-fn may_follow(last: Option<u64>, entry: &Entry) -> bool {
-    match last {
-        Some(last) if is_opening(entry) => last <= entry.moment(),
-        Some(last) => last == entry.moment(),
-        None => is_opening(entry),
-    }
-}
-
 impl Past {
     fn take(&mut self, number: u64, said: Said) -> Result<(), Stop> {
-        if !may_follow(self.last, &said.entry) || self.entries.len() >= MAX_ENTRIES {
+        if !said.entry.may_follow(self.last) || self.entries.len() >= MAX_ENTRIES {
             return Err(Stop::Line(number));
         }
         self.last = Some(said.entry.moment());
