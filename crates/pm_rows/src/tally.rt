@@ -185,7 +185,10 @@ fn a_line_of_2049_bytes_has_not_the_form(rt: HostRuntime) -> Result<(), Fail> {
         let metric = "x".repeat(alloc, bytes)?;
         let line = format!(in alloc; "end\n60 {CELL} {metric} 1\n")?;
         let want = Status::BadInput { place: 2, code };
-        assert_eq!(rt; Status::from(compare(&rt, alloc, line.as_bytes(), bytes)?.end), want);
+        assert_eq!(rt;
+            Status::from(compare(&rt, alloc, line.as_bytes(), bytes)?.end),
+            want
+        );
     }
     Ok(())
 }

@@ -5,8 +5,8 @@ ghost use Rattle.std.specs.Prelude.{◌≡◌};
 
 use super::*;
 use pm_base::{Blob, Class, Text};
-use pm_meas::Reduce;
 use pm_history::{Entry, Metric, Side};
+use pm_meas::Reduce;
 use std::alloc::{AllocError, Global};
 use std::test::Fail;
 

@@ -12,8 +12,8 @@ use crate::book::Book;
 use crate::counted::{is_counted, some_counted};
 use crate::making::Making;
 use pm_base::tick;
-use pm_meas::plain::value_of;
 use pm_history::{Entry, Metric};
+use pm_meas::plain::value_of;
 use std::alloc::{AllocError, Global};
 
 // The value of a registered event of the object and the metric, where its tick passes.
