@@ -80,7 +80,7 @@ IsCrowded bytes sight.Crowded =
 IsCrowded bytes sight.More = IsUnfinished bytes
 IsCrowded bytes sight.Never = NeverHasRequest bytes
 
--- What some bytes show of the head at their front, with room for 64 fields.
+-- What some bytes show of the head at their start, with room for 64 fields.
 abbrev pub IsSight : List ℕ → List HeaderSpan → Sight → Type 0
 IsSight bytes headers (sight.Whole spans) =
     IsRequestWithin bytes headers spans × (spans.headers ≤ 64) × ((head : RequestHead) × IsRequestAt bytes headers spans head)
@@ -88,7 +88,7 @@ IsSight bytes headers sight.Crowded = IsCrowded bytes sight.Crowded
 IsSight bytes headers sight.More = IsUnfinished bytes
 IsSight bytes headers sight.Never = NeverHasRequest bytes
 
--- The spans are those of a head at the front of the bytes, which has at most 64 fields and 16,384 bytes.
+-- The spans are those of a head at the start of the bytes, which has at most 64 fields and 16,384 bytes.
 pub record IsParsed (bytes : List ℕ) (headers : List HeaderSpan) (spans : RequestSpans) : Type 0 where
   pub within : IsRequestWithin bytes headers spans
   pub few : spans.headers ≤ 64

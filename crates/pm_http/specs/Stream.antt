@@ -1,4 +1,4 @@
--- The requests of a stream of bytes, from its front (RFC 9112; the codes and the limits are this project's own).
+-- The requests of a stream of bytes, from its start (RFC 9112; the codes and the limits are this project's own).
 use Rattle.std.specs.Prelude.{◌≡◌, ◌+◌, ◌-◌, ◌*◌, ◌<◌, ◌≤◌, ◌⊎◌, ℕ, Bool, true, false, List, [], ◌++◌, length, take, Result, Ok, Err}
 use Rattle.httparse.specs.Grammar.{RequestHead, print_request, ReadsRequest, HasNoRequest, NeverHasRequest, MayBecomeRequest, EndsInTarget}
 use Rattle.pm_base.specs.declared.code.Code.{Code}
@@ -20,7 +20,7 @@ MOST_HEAD = 16384
 abbrev pub looked_at : List ℕ → List ℕ
 looked_at bytes = take MOST_HEAD bytes
 
--- A whole head stands at the front. There is at most one.
+-- A whole head is at the start. There is at most one.
 abbrev pub HasHead : List ℕ → RequestHead → Type 0
 HasHead bytes head = (rest : List ℕ) × ReadsRequest (looked_at bytes) head rest
 
@@ -39,7 +39,7 @@ pub record IsFirst (bytes : List ℕ) (request : Request) (after : List ℕ) : T
   pub size : body_size head ≡ Bytes (length request.body)
   pub parts : IsOf head request
 
--- No whole head stands at the front, and more bytes may make one: some do, or the bytes end inside a target, whose test
+-- No whole head is at the start, and more bytes may make one: some do, or the bytes end inside a target, whose test
 -- for UTF-8 waits for its end.
 pub record IsUnfinished (bytes : List ℕ) : Type 0 where
   pub none : HasNoRequest bytes
@@ -51,7 +51,7 @@ HasNoHead bytes H1 = NeverHasRequest (looked_at bytes)
 HasNoHead bytes H2 = (MOST_HEAD ≤ length bytes) × IsUnfinished (looked_at bytes)
 HasNoHead bytes _ = ⊥
 
--- The request at the front is refused by this code: it has no head, or its head breaks a rule.
+-- The request at the start is refused by this code: it has no head, or its head breaks a rule.
 abbrev pub IsRefused : List ℕ → Code → Type 0
 IsRefused bytes code =
     HasNoHead bytes code ⊎ ((head : RequestHead) × HasHead bytes head × (body_size head ≡ Refused code))
