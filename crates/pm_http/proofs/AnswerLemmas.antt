@@ -74,7 +74,7 @@ answered-Long bytes many none = λ more inside. elim inside [
       (head_in_front 16384 (bytes ++ more) in_body.head in_body.body in_body.reads in_body.short))
 ]
 
--- Bytes that are the front of no head end inside a request only where they end inside a target.
+-- Bytes that begin no head end inside a request only where they end inside a target.
 pub never_inside : (bytes more : List ℕ) → NeverHasRequest (looked_at bytes) → EndsInRequest (bytes ++ more) → EndsInTarget (bytes ++ more)
 never_inside bytes more never inside =
     let on = never_grows bytes more (never_from_front 16384 bytes never) in
@@ -96,7 +96,7 @@ pub gathered-Refused : (all gathered left : List ℕ) (headers : List HeaderSpan
 gathered-Refused all gathered left headers spans code g size =
     answered-Refused gathered g.head [] code (whole_head all gathered left headers spans g) size
 
--- The body stands behind the head that is gathered.
+-- The body follows the head that is gathered.
 pub gathered-Request : (all gathered left body : List ℕ) (headers : List HeaderSpan) (spans : RequestSpans)
     → (g : IsGathered all gathered left headers spans) → body_size g.head ≡ Bytes (length body) → IsAnswered (gathered ++ body)
 gathered-Request all gathered left body headers spans g size =

@@ -31,7 +31,7 @@ pub values_of-one : (name : List ℕ) (field : Named) → is_named name field �
 values_of-one name field named =
     ap (λ (b : Bool). map (λ (f : Named). f.1) (cond b (field ∷ []) [])) named
 
--- Behind no value stands the one, behind one the second, behind more one more.
+-- After no value comes the one, after one the second, after more one more.
 pub IsValues-none : (limit : ℕ) (buf : List ℕ) (values : List (List ℕ)) (value : Span) → IsValues limit buf values None → IsWithin limit value
     → IsValues limit buf (values ++ span_bytes buf value ∷ []) (One value)
 IsValues-none limit buf values value is within = (within, ap (λ (l : List (List ℕ)). l ++ span_bytes buf value ∷ []) is)

@@ -5,9 +5,10 @@ use Rattle.std.proofs.lemmas.Bool.{cases_lt}
 use Rattle.std.proofs.lemmas.List.Elements.{All-head, All-tail}
 use Rattle.httparse.specs.Grammar.{LineEnd, crlf, lf, print_end, print_blank, print_version, Field, print_field, print_section, RequestHead, print_request, ReadsRequest, HasNoRequest}
 use Rattle.pm_base.specs.Lines.{HasNoLineFeed}
+use Rattle.pm_http.specs.Piece.{EndsBlank}
 
--- Of two ways to part a list, the longer front begins with the shorter one.
-parts : (a b c d : List ℕ) → a ++ b ≡ c ++ d → length a ≤ length c → (m : List ℕ) × (c ≡ a ++ m) × (b ≡ m ++ d)
+-- Of two ways to part a list, the longer prefix begins with the shorter one.
+pub parts : (a b c d : List ℕ) → a ++ b ≡ c ++ d → length a ≤ length c → (m : List ℕ) × (c ≡ a ++ m) × (b ≡ m ++ d)
 parts [] b c d e le = (c, refl, e)
 parts (x ∷ a) b [] d e le = absurd (omega (arith, le))
 parts (x ∷ a) b (y ∷ c) d e le =
@@ -126,60 +127,27 @@ head_ends-line old line h rest none plain reads =
     let o = only_end line e.0 rest plain e.1 in
     (o.1, e.2 ∙ ap (λ (t : List ℕ). old ++ t ++ 10 ∷ []) o.0)
 
-end_length : (e : LineEnd) → (0 < length (print_end e)) × (length (print_end e) ≤ 2)
-end_length crlf = (omega arith, omega arith)
-end_length lf = (omega arith, omega arith)
+blank_end : (e : LineEnd) (lines bytes : List ℕ) → bytes ≡ lines ++ 10 ∷ print_end e → EndsBlank bytes
+blank_end crlf lines bytes is = (lines, inr is)
+blank_end lf lines bytes is = (lines, inl is)
 
--- The line that ends as an empty one does is empty, but for a carriage return.
-last_line : (e : LineEnd) (front line : List ℕ) → print_end e ≡ front ++ (line ++ 10 ∷ []) → (line ≡ []) ⊎ (line ≡ 13 ∷ [])
-last_line e front [] is = inl refl
-last_line crlf [] (x ∷ []) is =
-    let first : x ≡ 13 = cc in
-    inr (cc first)
-last_line lf [] (x ∷ []) is =
-    let sizes = ap length is in
-    absurd (omega (arith, sizes))
-last_line e (y ∷ front) (x ∷ line) is =
-    let sizes = simp length-append at (ap length is) in
-    let few = end_length e in
-    absurd (omega (arith, sizes, few.1))
-last_line e [] (x ∷ y ∷ line) is =
-    let sizes = simp length-append at (ap length is) in
-    let few = end_length e in
-    absurd (omega (arith, sizes, few.1))
-
--- Only an empty line completes a head.
-pub no_head-line : (old line : List ℕ) → HasNoRequest old → HasNoLineFeed line → line ≢ [] → line ≢ 13 ∷ []
+-- A line completes a head only where an empty line ends then.
+pub no_head-line : (old line : List ℕ) → HasNoRequest old → HasNoLineFeed line → (EndsBlank (old ++ (line ++ 10 ∷ [])) → ⊥)
     → HasNoRequest (old ++ (line ++ 10 ∷ []))
-no_head-line old line none plain some other h rest reads =
+no_head-line old line none plain other h rest reads =
     let whole = head_ends-line old line h rest none plain reads in
     let lines = request_lines h in
-    let same : old ++ (line ++ 10 ∷ []) ≡ lines.0 ++ 10 ∷ print_end h.last =
-    sym (append_assoc old line (10 ∷ [])) ∙ sym whole.1 ∙ lines.1 in
-    elim (cases_lt (length lines.0) (length old)) [
-      | inl before ↦ (
-          let le : length (lines.0 ++ 10 ∷ []) ≤ length old = omega (arith, before, length-append lines.0 (10 ∷ [])) in
-          let p = parts (lines.0 ++ 10 ∷ []) (print_end h.last) old (line ++ 10 ∷ []) (append_assoc lines.0 (10 ∷ []) (print_end h.last) ∙ sym same) le in
-          elim (last_line h.last p.0 line p.2) [ inl empty ↦ some empty | inr return ↦ other return ]
-          )
-      | inr behind ↦ (
-          let p = parts old (line ++ 10 ∷ []) lines.0 (10 ∷ print_end h.last) same behind in
-          let o = only_end line p.0 (print_end h.last) plain p.2 in
-          let sizes = ap length o.1 in
-          let some_end = end_length h.last in
-          omega (arith, sizes, some_end.0)
-          )
-    ]
+    other (blank_end h.last lines.0 (old ++ (line ++ 10 ∷ [])) (sym (append_assoc old line (10 ∷ [])) ∙ sym whole.1 ∙ lines.1))
 
-behind : (front a b c d : List ℕ) → front ++ a ++ b ++ c ++ d ≡ front ++ (a ++ b ++ c ++ d)
-behind front a b c d = simp append_assoc refl
+after : (front a b c d : List ℕ) → front ++ a ++ b ++ c ++ d ≡ front ++ (a ++ b ++ c ++ d)
+after front a b c d = simp append_assoc refl
 
--- A head has a space behind its method, so bytes without one hold none.
+-- A head has a space after its method, so bytes without one hold none.
 spaced : (h : RequestHead) → (rest : List ℕ) × (print_request h ≡ (print_blank h.blank ++ h.method) ++ 32 ∷ rest)
 unfolding print_request
 spaced h =
     let rest = h.target ++ 32 ∷ print_version h.minor ++ print_end h.line_end ++ print_section h.fields h.last in
-    (rest, behind (print_blank h.blank ++ h.method) (32 ∷ h.target) (32 ∷ print_version h.minor) (print_end h.line_end) (print_section h.fields h.last))
+    (rest, after (print_blank h.blank ++ h.method) (32 ∷ h.target) (32 ∷ print_version h.minor) (print_end h.line_end) (print_section h.fields h.last))
 
 pub no_head-spaceless : (bytes : List ℕ) → All (λ b. b ≢ 32) bytes → HasNoRequest bytes
 no_head-spaceless bytes plain h rest reads =

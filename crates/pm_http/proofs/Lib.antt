@@ -15,3 +15,4 @@ pub mod ReadLemmas
 pub mod QueryLemmas
 pub mod StreamLawLemmas
 pub mod StopsLemmas
+pub mod SeenLemmas

@@ -1,4 +1,4 @@
--- What stands before the limit.
+-- What comes before the limit.
 use Rattle.std.proofs.Common.{◌≡◌, ℕ, ◌+◌, ◌-◌, ◌<◌, ◌≤◌, inl, inr, List, [], ◌++◌, length, take, drop, sym, ap, ◌∙◌, subst, arith, append_assoc, append-nil, length-append}
 use Rattle.std.proofs.lemmas.List.{take_all, drop_all, length-take}
 use Rattle.std.proofs.Math.Seq.{take-append-add}
@@ -12,32 +12,32 @@ use Rattle.pm_http.specs.Stream.{looked_at, readable, StopsAtLimit, EndsInHead, 
 use Rattle.pm_http.specs.Piece.{IsGathered, BodyStops, IsAnswered}
 use Rattle.pm_http.proofs.AnswerLemmas.{never_inside}
 
--- Behind a front, the readable bytes are the front and the readable ones of the others.
-behind_front : (most was now : ℕ) (all front left : List ℕ) → all ≡ front ++ left → now + length left ≡ was + length all → now ≤ most
+-- After a prefix, the readable bytes are the prefix and the readable ones of the others.
+after_front : (most was now : ℕ) (all front left : List ℕ) → all ≡ front ++ left → now + length left ≡ was + length all → now ≤ most
     → take (most - was) all ≡ front ++ take (most - now) left
-behind_front most was now all front left split given within =
+after_front most was now all front left split given within =
     let sizes : length front + (most - now) ≡ most - was = omega (arith, given, within, ap length split, length-append front left) in
     ap (take (most - was)) split ∙ ap (λ (k : ℕ). take k (front ++ left)) (sym sizes) ∙ take-append-add front left (most - now)
 
--- All readable bytes were gathered, and the limit stands inside a head.
-stops_behind : (most was now : ℕ) (all gathered left : List ℕ) → all ≡ gathered ++ left → now + length left ≡ was + length all → now ≡ most
+-- All readable bytes were gathered, and the limit is inside a head.
+stops_after : (most was now : ℕ) (all gathered left : List ℕ) → all ≡ gathered ++ left → now + length left ≡ was + length all → now ≡ most
     → take (most - was) all ≡ gathered
-stops_behind most was now all gathered left split given spent =
+stops_after most was now all gathered left split given spent =
     let within : now ≤ most = omega (arith, spent) in
     let none : most - now ≡ 0 = omega (arith, spent) in
-    behind_front most was now all gathered left split given within ∙ ap (λ (k : ℕ). gathered ++ take k left) none ∙ append-nil gathered
+    after_front most was now all gathered left split given within ∙ ap (λ (k : ℕ). gathered ++ take k left) none ∙ append-nil gathered
 
 pub stops-in_head : (all gathered left : List ℕ) (was now : ℕ) → all ≡ gathered ++ left → now + length left ≡ was + length all → now ≡ MOST_READ
     → EndsInHead gathered → StopsAtLimit was all
 stops-in_head all gathered left was now split given spent in_head = record {
   reached = omega (arith, given, spent);
-  inside = inl (subst EndsInHead (sym (stops_behind MOST_READ was now all gathered left split given spent)) in_head);
+  inside = inl (subst EndsInHead (sym (stops_after MOST_READ was now all gathered left split given spent)) in_head);
 }
 
 fewer_than : (most now size : ℕ) (left : List ℕ) → now ≤ most → most < now + size → length (take (most - now) left) < size
 fewer_than most now size left within fewer = omega (arith, within, fewer, length-take (most - now) left)
 
--- The limit stands inside a body.
+-- The limit is inside a body.
 pub stops-in_body : (all gathered left : List ℕ) (headers : List HeaderSpan) (spans : RequestSpans) (was now size : ℕ)
     → (g : IsGathered all gathered left headers spans) → body_size g.head ≡ Bytes size → now + length left ≡ was + length all
     → BodyStops now left size → StopsAtLimit was all
@@ -47,7 +47,7 @@ stops-in_body all gathered left headers spans was now size g size_is given stops
     head = g.head;
     body = take (MOST_READ - now) left;
     size = size;
-    reads = (g.at.reads.0, behind_front MOST_READ was now all gathered left g.split given stops.within ∙ ap (λ (t : List ℕ). t ++ take (MOST_READ - now) left) g.whole);
+    reads = (g.at.reads.0, after_front MOST_READ was now all gathered left g.split given stops.within ∙ ap (λ (t : List ℕ). t ++ take (MOST_READ - now) left) g.whole);
     short = subst (λ (t : List ℕ). length t ≤ 16384) g.whole g.short;
     size_is = size_is;
     less = fewer_than MOST_READ now size left stops.within stops.fewer;
@@ -58,13 +58,13 @@ stops-in_body all gathered left headers spans was now size g size_is given stops
 pub ended_before : (was now : ℕ) (all left : List ℕ) → now + length left ≡ was + length all → left ≡ [] → now < MOST_READ → StopsAtLimit was all → ⊥
 ended_before was now all left given none before stops = omega (arith, given, ap length none, before, stops.reached)
 
--- What stops at the limit has the bytes at its front that were taken before it.
+-- What stops at the limit begins with the bytes that were taken before it.
 pub stops_with : (was now : ℕ) (all front left : List ℕ) → all ≡ front ++ left → now + length left ≡ was + length all → now ≤ MOST_READ
     → StopsAtLimit was all → EndsInRequest (front ++ readable now left)
 stops_with was now all front left split given within stops =
-    subst EndsInRequest (behind_front MOST_READ was now all front left split given within) stops.inside
+    subst EndsInRequest (after_front MOST_READ was now all front left split given within) stops.inside
 
--- The front goes on by the first of the bytes that are left.
+-- The prefix goes on by the first of the bytes that are left.
 pub front_on : (all front left more rest : List ℕ) → all ≡ front ++ left → left ≡ more ++ rest → all ≡ (front ++ more) ++ rest
 front_on all front left more rest split first = split ∙ ap (λ (t : List ℕ). front ++ t) first ∙ sym (append_assoc front more rest)
 
@@ -74,11 +74,11 @@ pub answered_before : (was now : ℕ) (all front left : List ℕ) → all ≡ fr
 answered_before was now all front left split given within answered stops =
     answered (readable now left) (stops_with was now all front left split given within stops)
 
--- Bytes that are the front of no head, and were taken before the limit.
+-- Bytes that begin no head, and were taken before the limit.
 pub never_before : (was now : ℕ) (all front left : List ℕ) → all ≡ front ++ left → now + length left ≡ was + length all → now ≤ MOST_READ
     → NeverHasRequest (looked_at front) → StopsAtLimit was all → EndsInTarget (readable was all)
 never_before was now all front left split given within never stops =
-    subst EndsInTarget (sym (behind_front MOST_READ was now all front left split given within))
+    subst EndsInTarget (sym (after_front MOST_READ was now all front left split given within))
     (never_inside front (readable now left) never (stops_with was now all front left split given within stops))
 
 -- A list that is written back whole is what it was.

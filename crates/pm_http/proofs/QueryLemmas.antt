@@ -6,9 +6,10 @@ use Rattle.std.proofs.lemmas.List.{map-append}
 use Rattle.std.proofs.lemmas.List.Elements.{filter-append}
 use Rattle.std.proofs.lemmas.List.Folds.{list_all-append}
 use Rattle.std.proofs.lemmas.Slice.Eq.{bytes_eq-Decides}
+use Rattle.form_urlencoded.specs.Form.{raw_pairs, IsPlainText}
 use Rattle.pm_http.specs.declared.query.Query.{Query}
-use Rattle.pm_http.specs.Query.{has_name, values_under, is_known, read_type, read_time, one_of, with_all, listing_query}
-use Rattle.pm_http.specs.QuerySteps.{one_more, pair_more, listing_from}
+use Rattle.pm_http.specs.Query.{has_name, values_under, is_known, read_type, read_time, one_of, with_all, decoded, pairs_of, listing_query, StopsAtPair}
+use Rattle.pm_http.specs.QuerySteps.{one_more, pair_more, HasRead}
 
 abbrev Pair : Type 0
 Pair = List ℕ × List ℕ
@@ -79,7 +80,7 @@ bt = codes "beginTime"
 abbrev et : List ℕ
 et = codes "endTime"
 
--- the parts of a query that stands
+-- the parts of a query that is made
 parts_of : (ps : List Pair) (query : Query) → listing_query ps ≡ Some query
     → Settled (list_all is_known ps) (one_of read_type (values_under ty ps)) (one_of read_time (values_under bt ps)) (one_of read_time (values_under et ps)) query
 parts_of ps query is = settled _ _ _ _ query is
@@ -178,7 +179,7 @@ no_end true (Some t) None = refl
 no_end true (Some t) (Some b) = refl
 no_end false t b = refl
 
--- Pairs that make no query make none with others behind them.
+-- Pairs that make no query make none with others after them.
 stays : (ps rest : List Pair) → listing_query ps ≡ None → listing_query (ps ++ rest) ≡ None
 stays ps rest none =
     by (list_all is_known ps) refl (one_of read_type (values_under ty ps)) refl (one_of read_time (values_under bt ps)) refl (one_of read_time (values_under et ps)) refl none
@@ -203,22 +204,53 @@ stays ps rest none =
         ∙ no_end (list_all is_known (ps ++ rest)) (one_of read_type (values_under ty (ps ++ rest))) (one_of read_time (values_under bt (ps ++ rest)))
     by true ke (Some t) te (Some b) be (Some e) ee n = cc
 
--- Where nothing was read, nothing is.
-pub nothing_from : (rest : List Pair) → listing_from None rest ≡ None
-nothing_from [] = refl
-nothing_from (p ∷ rest) = refl
+abbrev nothing_asked : Query
+nothing_asked = record { performance = None; begin = None; end = None }
 
--- What the pairs make of what was read is what they make.
-from_front : (rest seen : List Pair) (query : Query) → listing_query seen ≡ Some query → listing_query (seen ++ rest) ≡ listing_from (Some query) rest
-from_front [] seen query is = ap listing_query (append-nil seen) ∙ is
-from_front (p ∷ rest) seen query is =
-    ap listing_query (sym (append_assoc seen (p ∷ []) rest))
-    ∙ by (λ next e. from_front rest (seen ++ p ∷ []) next e) (pair_more query p.0 p.1) (more seen query p is)
-  where
-    by : ((next : Query) → listing_query (seen ++ p ∷ []) ≡ Some next → listing_query (seen ++ p ∷ [] ++ rest) ≡ listing_from (Some next) rest)
-        → (o : Option Query) → listing_query (seen ++ p ∷ []) ≡ o → listing_query (seen ++ p ∷ [] ++ rest) ≡ listing_from o rest
-    by ih (Some next) e = ih next e
-    by ih None e = stays (seen ++ p ∷ []) rest e ∙ sym (nothing_from rest)
+with_one : (before : List Pair) (asked : Query) (pair : Pair) → listing_query (map decoded before) ≡ Some asked
+    → listing_query (map decoded (before ++ pair ∷ [])) ≡ pair_more asked (decoded pair).0 (decoded pair).1
+with_one before asked pair is = ap listing_query (map-append decoded before (pair ∷ [])) ∙ more (map decoded before) asked (decoded pair) is
 
-pub from_nothing : (pairs : List Pair) → listing_query pairs ≡ listing_from (Some record { performance = None; begin = None; end = None }) pairs
-from_nothing pairs = from_front pairs [] (record { performance = None; begin = None; end = None }) refl
+-- No pair is read yet.
+pub read_nothing : (query : List ℕ) → HasRead query (raw_pairs query) nothing_asked
+read_nothing query = record { before = []; split = refl; good = refl }
+
+-- A pair is read.
+pub read_pair : (query name value : List ℕ) (left rest : List Pair) (asked next : Query) (pair : Pair) → HasRead query left asked → left ≡ pair ∷ rest
+    → name ≡ (decoded pair).0 → value ≡ (decoded pair).1 → pair_more asked name value ≡ Some next → HasRead query rest next
+read_pair query name value left rest asked next pair h first name_is value_is gives =
+    let is = rw (name_is, value_is) at gives in
+    record {
+      before = h.before ++ pair ∷ [];
+      split = h.split ∙ ap (λ (t : List Pair). h.before ++ t) first ∙ sym (append_assoc h.before (pair ∷ []) rest);
+      good = with_one h.before asked pair h.good ∙ is;
+    }
+
+-- A pair breaks a rule.
+pub read_refused : (query name value : List ℕ) (left rest : List Pair) (asked : Query) (pair : Pair) → HasRead query left asked → left ≡ pair ∷ rest
+    → name ≡ (decoded pair).0 → value ≡ (decoded pair).1 → pair_more asked name value ≡ None → listing_query (pairs_of query) ≡ None
+read_refused query name value left rest asked pair h first name_is value_is gives =
+    let is = rw (name_is, value_is) at gives in
+    let split : raw_pairs query ≡ (h.before ++ pair ∷ []) ++ rest =
+    h.split ∙ ap (λ (t : List Pair). h.before ++ t) first ∙ sym (append_assoc h.before (pair ∷ []) rest) in
+    ap (λ (t : List Pair). listing_query (map decoded t)) split
+    ∙ ap listing_query (map-append decoded (h.before ++ pair ∷ []) rest)
+    ∙ stays (map decoded (h.before ++ pair ∷ [])) (map decoded rest) (with_one h.before asked pair h.good ∙ is)
+
+-- All pairs are read.
+pub read_whole : (query : List ℕ) (left : List Pair) (asked : Query) → HasRead query left asked → left ≡ [] → listing_query (pairs_of query) ≡ Some asked
+read_whole query left asked h none =
+    ap (λ (t : List Pair). listing_query (map decoded t)) (h.split ∙ ap (λ (t : List Pair). h.before ++ t) none ∙ append-nil h.before) ∙ h.good
+
+-- There is no memory for a pair.
+pub read_stops : (query : List ℕ) (left rest : List Pair) (asked : Query) (pair : Pair) → HasRead query left asked → left ≡ pair ∷ rest
+    → (IsPlainText pair.0 → IsPlainText pair.1 → ⊥) → StopsAtPair query
+read_stops query left rest asked pair h first encoded = record {
+  before = h.before;
+  pair = pair;
+  others = rest;
+  split = h.split ∙ ap (λ (t : List Pair). h.before ++ t) first;
+  asked = asked;
+  good = h.good;
+  encoded = encoded;
+}

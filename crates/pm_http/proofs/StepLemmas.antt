@@ -1,22 +1,23 @@
 -- What one piece more tells of the head.
-use Rattle.std.proofs.Common.{◌≡◌, ◌≢◌, ℕ, ◌+◌, ◌-◌, ◌<◌, ◌≤◌, inl, inr, Bool, true, false, List, [], ◌∷◌, ◌++◌, length, take, drop, refl, sym, ap, ◌∙◌, subst, arith, append_assoc, append-nil, length-append, take-append-drop, take_all}
+use Rattle.std.proofs.Common.{◌≡◌, ◌≢◌, ℕ, ◌+◌, ◌-◌, ◌<◌, ◌≤◌, ◌⊎◌, inl, inr, Bool, true, false, List, [], ◌∷◌, ◌++◌, length, take, drop, refl, sym, ap, ◌∙◌, subst, arith, append_assoc, append-nil, length-append, length-drop, take-append-drop, take_all}
+use Rattle.std.specs.List.{slice_range}
 use Rattle.std.proofs.lemmas.Bool.{cases_lt}
 use Rattle.std.proofs.lemmas.List.{take-append-le, length-take}
 use Rattle.std.proofs.lemmas.List.Elements.{All-append}
-use Rattle.std.proofs.Math.Seq.{take-append-add}
+use Rattle.std.proofs.Math.Seq.{take-append-add, drop-append_seam}
 use Rattle.httparse.specs.Grammar.{RequestHead, print_request, ReadsRequest, HasNoRequest, NeverHasRequest}
 use Rattle.httparse.specs.declared.spans.HeaderSpan.{HeaderSpan}
 use Rattle.httparse.specs.declared.spans.RequestSpans.{RequestSpans}
 use Rattle.httparse.proofs.GrammarLemmas.{ReadsRequest-append}
 use Rattle.pm_base.specs.Lines.{HasNoLineFeed}
 use Rattle.pm_http.specs.declared.piece.Piece.{Piece}
-use Rattle.pm_http.specs.declared.piece.Piece.TheVariants.{Blank, Line, Part, End, Limit}
+use Rattle.pm_http.specs.declared.piece.Piece.TheVariants.{Line, Part, End, Limit}
 use Rattle.pm_http.specs.declared.sight.Sight.TheVariants as sight
 use Rattle.pm_http.specs.declared.head_end.HeadEnd.TheVariants as ends
 use Rattle.pm_http.specs.Stream.{looked_at, IsUnfinished, EndsInHead}
-use Rattle.pm_http.specs.Piece.{IsPiece, HasNoSpace, IsBegun, IsSight, IsParsed, IsLast, MayGrow, Moves, Gathers, Grows, EndsHead}
+use Rattle.pm_http.specs.Piece.{HasNoSpace, IsBegun, EndsBlank, IsSight, IsParsed, IsLast, MayGrow, Moves, Gathers, Grows, EndsHead}
 use Rattle.pm_http.proofs.HeadLemmas.{whole_from_front, never_grows}
-use Rattle.pm_http.proofs.GatherLemmas.{no_head-nothing, no_head-part, no_head-line, head_ends-line}
+use Rattle.pm_http.proofs.GatherLemmas.{no_head-nothing, no_head-part, no_head-line, no_head-spaceless, head_ends-line}
 
 -- The first bytes of a front are a front of the first bytes.
 pub take_front : (n : ℕ) (front rest : List ℕ) → (more : List ℕ) × (take n (front ++ rest) ≡ take n front ++ more)
@@ -65,26 +66,25 @@ moved all old left gathered left2 piece gathers few moves = record {
     nothing [] b e = e
     nothing (x ∷ a) b e = cc
 
--- Behind an empty line no byte is a space where none was.
-pub still_spaceless : (old bytes gathered : List ℕ) → HasNoSpace old → IsPiece Blank bytes → gathered ≡ old ++ bytes → HasNoSpace gathered
-still_spaceless old bytes gathered plain is grown = elim is [
-  | inl bare ↦ subst HasNoSpace (sym (grown ∙ ap (λ (t : List ℕ). old ++ t) bare)) (All-append (λ b. b ≢ 32) old (10 ∷ []) plain (search arith))
-  | inr return ↦ subst HasNoSpace (sym (grown ∙ ap (λ (t : List ℕ). old ++ t) return)) (All-append (λ b. b ≢ 32) old (13 ∷ 10 ∷ []) plain (search arith))
-]
-
--- Whether the head is begun behind a piece that was moved.
-pub begun_on : (was now : Bool) (old left gathered left2 : List ℕ) (piece : Piece) → (now ≡ false → (was ≡ false) × (piece ≡ Blank))
-    → IsBegun was old → Moves old left gathered left2 piece → IsBegun now gathered
+-- Whether the head is begun after a piece that was moved.
+pub begun_on : (was now : Bool) (old left gathered left2 : List ℕ) (piece : Piece)
+    → (now ≡ false → (was ≡ false) × HasNoSpace (slice_range gathered (length old) (length gathered))) → IsBegun was old
+    → Moves old left gathered left2 piece → IsBegun now gathered
 begun_on was now old left gathered left2 piece still begun moves = λ is.
     let same = still is in
-    still_spaceless old moves.bytes gathered (begun same.0) (subst (λ (p : Piece). IsPiece p moves.bytes) same.1 moves.is) moves.grown
+    let le : length (drop (length old) gathered) ≤ length gathered - length old = omega (arith, length-drop (length old) gathered) in
+    let added = take_all (length gathered - length old) (drop (length old) gathered) le ∙ ap (drop (length old)) moves.grown ∙ drop-append_seam old moves.bytes in
+    subst HasNoSpace (sym moves.grown) (All-append (λ b. b ≢ 32) old moves.bytes (begun same.0) (subst HasNoSpace added same.1))
 
--- A line that isn't empty, and a part of a line, complete no head.
-pub no_head-Line : (all gathered left : List ℕ) → Grows all gathered left Line → Gathers all gathered left
-no_head-Line all gathered left g = record {
-  split = g.split;
-  none = subst HasNoRequest (sym (g.grown ∙ ap (λ (t : List ℕ). g.old ++ t) g.is.1)) (no_head-line g.old g.is.0 g.none g.is.2 g.is.3 g.is.4);
-}
+-- A line that ends no empty line, or comes before the head is begun, completes no head. Nor does a part of a line.
+pub no_head-Line : (all gathered left : List ℕ) (begun : Bool) → Grows all gathered left Line → IsBegun begun gathered
+    → (begun ≡ false) ⊎ (EndsBlank gathered → ⊥) → HasNoRequest gathered
+no_head-Line all gathered left begun g is open_head =
+    let whole : gathered ≡ g.old ++ (g.is.0 ++ 10 ∷ []) = g.grown ∙ ap (λ (t : List ℕ). g.old ++ t) g.is.1 in
+    elim open_head [
+      | inl early ↦ no_head-spaceless gathered (is early)
+      | inr other ↦ subst HasNoRequest (sym whole) (no_head-line g.old g.is.0 g.none g.is.2 (λ e. other (subst EndsBlank (sym whole) e)))
+    ]
 
 pub no_head-Part : (all gathered left : List ℕ) → Grows all gathered left Part → Gathers all gathered left
 no_head-Part all gathered left g = record {
@@ -102,17 +102,6 @@ whole_line gathered old bytes line none grown is plain h rest reads =
 
 pub all_gathered : (all gathered left : List ℕ) (piece : Piece) → (IsLast piece → ⊥) → Grows all gathered left piece
     → (h : RequestHead) (rest : List ℕ) → ReadsRequest gathered h rest → gathered ≡ print_request h
-all_gathered all gathered left Blank on g h rest reads =
-    elim g.is [
-      | inl bare ↦ whole_line gathered g.old g.bytes [] g.none g.grown bare (plain_nothing) h rest reads
-      | inr return ↦ whole_line gathered g.old g.bytes (13 ∷ []) g.none g.grown return (plain_return) h rest reads
-    ]
-  where
-    plain_nothing : HasNoLineFeed []
-    plain_nothing = search arith
-
-    plain_return : HasNoLineFeed (13 ∷ [])
-    plain_return = search arith
 all_gathered all gathered left Line on g h rest reads =
     whole_line gathered g.old g.bytes g.is.0 g.none g.grown g.is.1 g.is.2 h rest reads
 all_gathered all gathered left Part on g h rest reads = absurd ((no_head-Part all gathered left g).none h rest reads)

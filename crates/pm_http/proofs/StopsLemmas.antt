@@ -8,7 +8,7 @@ use Rattle.pm_http.specs.declared.error.HttpError.{HttpError}
 use Rattle.pm_http.specs.declared.error.HttpError.TheVariants as http
 use Rattle.pm_http.specs.declared.size.BodySize.TheVariants.{Bytes}
 use Rattle.pm_http.specs.Head.{body_size}
-use Rattle.pm_http.specs.Stream.{EndsInHead, EndsInBody, IsWhole, StopsAtFault, StopsForMemory}
+use Rattle.pm_http.specs.Stream.{EndsInHead, EndsInBody, MayBegin, IsWhole, StopsAtFault, StopsForMemory}
 use Rattle.pm_http.specs.Piece.{IsGathered, Gathers, FailsInBody, StopsInHead, StopsAfterHead}
 use Rattle.pm_http.proofs.StreamLawLemmas.{nothing_in_head}
 
@@ -104,10 +104,10 @@ no_limit_in_head all left http.ReadFault is stops = cc (is)
 no_limit_in_head all left http.Memory is stops = cc (is)
 
 -- A read fails before the next piece, or the gathered bytes can't grow.
-pub fault_at_piece : (all gathered left rest : List ℕ) → Gathers all gathered left → length gathered < 16384 → rest ≡ left
+pub fault_at_piece : (all gathered left rest : List ℕ) → Gathers all gathered left → length gathered < 16384 → MayBegin gathered → rest ≡ left
     → StopsInHead all rest http.ReadFault
-fault_at_piece all gathered left rest g few same =
-    (gathered, g.split ∙ ap (λ (t : List ℕ). gathered ++ t) (sym same), record { few = few; none = g.none })
+fault_at_piece all gathered left rest g few begins same =
+    (gathered, g.split ∙ ap (λ (t : List ℕ). gathered ++ t) (sym same), record { few = few; none = g.none; begins = begins })
 
 pub memory_at_piece : (all gathered left : List ℕ) → Gathers all gathered left → (HasNoRequest gathered → EndsInHead gathered)
     → StopsInHead all left http.Memory

@@ -78,6 +78,6 @@ has_close value = list_any is_close (pieces_of 44 value)
 abbrev pub says_close : List ℕ × List ℕ → Bool
 says_close field = is_named (codes "connection") field && has_close field.1
 
--- The connection closes behind the reply: by the minor number of the version, which is 0 of HTTP/1.0, or by a field.
+-- The connection closes after the reply: by the minor number of the version, which is 0 of HTTP/1.0, or by a field.
 abbrev pub closes : ℕ → List (List ℕ × List ℕ) → Bool
 closes minor fields = minor == 0 || list_any says_close fields

@@ -1,13 +1,13 @@
 -- What a head is gathered from: lines, and parts of long ones.
 use Rattle.std.specs.Prelude.{◌≡◌, ◌≢◌, ◌+◌, ◌<◌, ◌≤◌, ◌⊎◌, ℕ, Bool, true, false, List, [], ◌∷◌, ◌++◌, length, take, All, Option, Some, None}
-use Rattle.httparse.specs.Grammar.{RequestHead, print_request, ReadsRequest, HasNoRequest, NeverHasRequest}
+use Rattle.httparse.specs.Grammar.{RequestHead, print_request, ReadsRequest, HasNoRequest, NeverHasRequest, MayBecomeRequest}
 use Rattle.httparse.specs.Spans.{IsRequestWithin, IsRequestAt}
 use Rattle.httparse.specs.declared.spans.HeaderSpan.{HeaderSpan}
 use Rattle.httparse.specs.declared.spans.RequestSpans.{RequestSpans}
 use Rattle.pm_outside.specs.Feed.{MOST_READ}
 use Rattle.pm_base.specs.Lines.{MOST_LINE, HasNoLineFeed}
 use Rattle.pm_http.specs.declared.piece.Piece.{Piece}
-use Rattle.pm_http.specs.declared.piece.Piece.TheVariants.{Blank, Line, Part, End, Limit}
+use Rattle.pm_http.specs.declared.piece.Piece.TheVariants.{Line, Part, End, Limit}
 use Rattle.pm_http.specs.declared.sight.Sight.{Sight}
 use Rattle.pm_http.specs.declared.sight.Sight.TheVariants as sight
 use Rattle.pm_http.specs.declared.head_end.HeadEnd.{HeadEnd}
@@ -20,47 +20,43 @@ use Rattle.pm_http.specs.Stream.{MOST_HEAD, looked_at, HasHead, IsUnfinished, En
 abbrev pub MOST_PIECE : ℕ
 MOST_PIECE = 2049
 
--- The bytes are an empty line, another line, a part of a line without its end, or nothing.
+-- The bytes are a line with its line feed, a part of a line without its end, or nothing.
 abbrev pub IsPiece : Piece → List ℕ → Type 0
-IsPiece Blank bytes = (bytes ≡ 10 ∷ []) ⊎ (bytes ≡ 13 ∷ 10 ∷ [])
-IsPiece Line bytes =
-    (line : List ℕ) × (bytes ≡ line ++ 10 ∷ []) × HasNoLineFeed line × (line ≢ []) × (line ≢ 13 ∷ [])
+IsPiece Line bytes = (line : List ℕ) × (bytes ≡ line ++ 10 ∷ []) × HasNoLineFeed line
 IsPiece Part bytes = HasNoLineFeed bytes
 IsPiece End bytes = bytes ≡ []
 IsPiece Limit bytes = bytes ≡ []
+
+-- The bytes end with a line feed, or not.
+abbrev pub EndsAs : List ℕ → Piece → Type 0
+EndsAs bytes Line = (before : List ℕ) × (bytes ≡ before ++ 10 ∷ [])
+EndsAs bytes Part = (before : List ℕ) → bytes ≡ before ++ 10 ∷ [] → ⊥
+EndsAs bytes End = ⊥
+EndsAs bytes Limit = ⊥
+
+-- The bytes end in an empty line that follows another one. An empty line may have a carriage return.
+abbrev pub EndsBlank : List ℕ → Type 0
+EndsBlank bytes = (lines : List ℕ) × ((bytes ≡ lines ++ 10 ∷ 10 ∷ []) ⊎ (bytes ≡ lines ++ 10 ∷ 13 ∷ 10 ∷ []))
 
 -- No byte is a space, so none of the bytes ends the method of a head.
 abbrev pub HasNoSpace : List ℕ → Type 0
 HasNoSpace bytes = All (λ b. b ≢ 32) bytes
 
--- Where the head isn't begun, no gathered byte is a space: they are empty lines.
+-- Where the head isn't begun, no gathered byte is a space.
 abbrev pub IsBegun : Bool → List ℕ → Type 0
 IsBegun begun gathered = begun ≡ false → HasNoSpace gathered
 
--- What a line is, without its line feed: an empty one may have a carriage return.
-abbrev pub IsLineKind : List ℕ → Piece → Type 0
-IsLineKind line Blank = (line ≡ []) ⊎ (line ≡ 13 ∷ [])
-IsLineKind line Line = (line ≢ []) × (line ≢ 13 ∷ [])
-IsLineKind line Part = ⊥
-IsLineKind line End = ⊥
-IsLineKind line Limit = ⊥
-
--- A line was appended: with its line feed where it has one, else as a part.
-abbrev pub IsPushed : List ℕ → List ℕ → Bool → List ℕ → Piece → Type 0
-IsPushed old line true new piece = (new ≡ old ++ line ++ 10 ∷ []) × IsLineKind line piece
-IsPushed old line false new piece = (new ≡ old ++ line) × (piece ≡ Part)
+-- The first bytes were looked at, and may begin a head.
+pub record IsSeen (seen : ℕ) (bytes : List ℕ) : Type 0 where
+  pub within : seen ≤ length bytes
+  pub may : MayBecomeRequest (take seen bytes)
 
 -- The piece is nothing, and none follows it.
 abbrev pub IsLast : Piece → Type 0
-IsLast Blank = ⊥
 IsLast Line = ⊥
 IsLast Part = ⊥
 IsLast End = Unit {0}
 IsLast Limit = Unit {0}
-
--- The first bytes that are left end no line: one more than a line has at the most, or those that may still be read.
-abbrev pub BeginsLine : ℕ → List ℕ → Type 0
-BeginsLine given left = HasNoLineFeed (take (MOST_LINE + 1) left) ⊎ HasNoLineFeed (readable given left)
 
 -- How many bytes were taken after this piece: fewer than may be at the end, and all that may be at the limit.
 abbrev pub PieceStands : ℕ → Piece → Type 0
@@ -84,7 +80,7 @@ IsCrowded bytes sight.Crowded =
 IsCrowded bytes sight.More = IsUnfinished bytes
 IsCrowded bytes sight.Never = NeverHasRequest bytes
 
--- What some bytes show of the head at their front, with room for 64 fields.
+-- What some bytes show of the head at their start, with room for 64 fields.
 abbrev pub IsSight : List ℕ → List HeaderSpan → Sight → Type 0
 IsSight bytes headers (sight.Whole spans) =
     IsRequestWithin bytes headers spans × (spans.headers ≤ 64) × ((head : RequestHead) × IsRequestAt bytes headers spans head)
@@ -92,7 +88,7 @@ IsSight bytes headers sight.Crowded = IsCrowded bytes sight.Crowded
 IsSight bytes headers sight.More = IsUnfinished bytes
 IsSight bytes headers sight.Never = NeverHasRequest bytes
 
--- The spans are those of a head at the front of the bytes, which has at most 64 fields and 16,384 bytes.
+-- The spans are those of a head at the start of the bytes, which has at most 64 fields and 16,384 bytes.
 pub record IsParsed (bytes : List ℕ) (headers : List HeaderSpan) (spans : RequestSpans) : Type 0 where
   pub within : IsRequestWithin bytes headers spans
   pub few : spans.headers ≤ 64

@@ -1,9 +1,9 @@
 -- The query of a listing: pairs in the URL standard's form encoding, of which it knows three names (this project's own).
-use Rattle.std.specs.Prelude.{◌≡◌, ◌||◌, ℕ, Bool, List, [], ◌∷◌, map, codes, bytes_eq, if◌then◌else◌, Option, Some, None, Result, Ok, Err}
+use Rattle.std.specs.Prelude.{◌≡◌, ◌||◌, ℕ, Bool, List, [], ◌∷◌, ◌++◌, map, codes, bytes_eq, if◌then◌else◌, Option, Some, None, Result, Ok, Err}
 use Rattle.std.specs.List.{filter, list_all}
 use Rattle.std.specs.Option.{option_map}
 use Rattle.std.specs.Str.Lossy.{utf8_lossy}
-use Rattle.form_urlencoded.specs.Form.{raw_pairs, decode}
+use Rattle.form_urlencoded.specs.Form.{raw_pairs, decode, IsPlainText}
 use Rattle.pm_base.specs.Number.{is_moment, number_of}
 use Rattle.pm_http.specs.declared.query.Query.{Query}
 use Rattle.pm_http.specs.declared.error.QueryError.{QueryError}
@@ -55,8 +55,18 @@ listing_query pairs =
     with_all (one_of read_type (values_under (codes "fileDataType") pairs)) (one_of read_time (values_under (codes "beginTime") pairs)) (one_of read_time (values_under (codes "endTime") pairs))
     else None
 
--- The answer: the query, or that there is none.
-abbrev pub IsListing : Option Query → Result Query QueryError → Type 0
-IsListing asked (Ok query) = asked ≡ Some query
-IsListing asked (Err L2) = asked ≡ None
-IsListing asked (Err Memory) = Unit {0}
+-- Out of memory: the pairs before one that isn't plain text, and so takes memory, break no rule.
+pub record StopsAtPair (query : List ℕ) : Type 0 where
+  pub before : List (List ℕ × List ℕ)
+  pub pair : List ℕ × List ℕ
+  pub others : List (List ℕ × List ℕ)
+  pub split : raw_pairs query ≡ before ++ pair ∷ others
+  pub asked : Query
+  pub good : listing_query (map decoded before) ≡ Some asked
+  pub encoded : IsPlainText pair.0 → IsPlainText pair.1 → ⊥
+
+-- The answer: the query, that there is none, or that no memory was left to tell.
+abbrev pub IsListing : List ℕ → Result Query QueryError → Type 0
+IsListing query (Ok asked) = listing_query (pairs_of query) ≡ Some asked
+IsListing query (Err L2) = listing_query (pairs_of query) ≡ None
+IsListing query (Err Memory) = StopsAtPair query

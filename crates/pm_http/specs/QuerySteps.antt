@@ -1,8 +1,9 @@
 -- How a query is read pair by pair.
-use Rattle.std.specs.Prelude.{ℕ, List, [], ◌∷◌, codes, bytes_eq, if◌then◌else◌, Option, Some, None}
+use Rattle.std.specs.Prelude.{◌≡◌, ℕ, List, ◌++◌, map, codes, bytes_eq, if◌then◌else◌, Option, Some, None}
 use Rattle.std.specs.Option.{option_map}
+use Rattle.form_urlencoded.specs.Form.{raw_pairs}
 use Rattle.pm_http.specs.declared.query.Query.{Query}
-use Rattle.pm_http.specs.Query.{read_type, read_time}
+use Rattle.pm_http.specs.Query.{read_type, read_time, decoded, listing_query}
 
 -- What one value more gives: it may be the first one.
 abbrev pub one_more : {X : Type 0} → (List ℕ → Option X) → Option X → List ℕ → Option (Option X)
@@ -17,8 +18,8 @@ pair_more query name value =
     else if bytes_eq name (codes "endTime") then option_map (λ t. record query { end = t }) (one_more read_time query.end value)
     else None
 
--- What the pairs that are left make of what was read.
-abbrev pub listing_from : Option Query → List (List ℕ × List ℕ) → Option Query
-listing_from asked [] = asked
-listing_from None (pair ∷ pairs) = None
-listing_from (Some query) (pair ∷ pairs) = listing_from (pair_more query pair.0 pair.1) pairs
+-- Of the pairs of a query all but these were read, and make this one.
+pub record HasRead (query : List ℕ) (left : List (List ℕ × List ℕ)) (asked : Query) : Type 0 where
+  pub before : List (List ℕ × List ℕ)
+  pub split : raw_pairs query ≡ before ++ left
+  pub good : listing_query (map decoded before) ≡ Some asked

@@ -6,7 +6,7 @@ use Rattle.matchit.specs.Seek.{has_slash}
 use Rattle.pm_http.specs.declared.kind.Kind.{Kind}
 use Rattle.pm_http.specs.declared.kind.Kind.TheVariants.{Job, Monitor, Subscription, Files, File, Events}
 
--- The fixed text at the front of a path.
+-- The fixed text at the start of a path.
 abbrev pub front_of : Kind → List ℕ
 front_of Job = codes "/jobs/"
 front_of Monitor = codes "/monitors/"

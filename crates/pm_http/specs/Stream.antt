@@ -1,5 +1,5 @@
--- The requests of a stream of bytes, from its front (RFC 9112; the codes and the limits are this project's own).
-use Rattle.std.specs.Prelude.{◌≡◌, ◌+◌, ◌-◌, ◌<◌, ◌≤◌, ◌⊎◌, ℕ, Bool, true, false, List, [], ◌++◌, length, take, Result, Ok, Err}
+-- The requests of a stream of bytes, from its start (RFC 9112; the codes and the limits are this project's own).
+use Rattle.std.specs.Prelude.{◌≡◌, ◌+◌, ◌-◌, ◌*◌, ◌<◌, ◌≤◌, ◌⊎◌, ℕ, Bool, true, false, List, [], ◌++◌, length, take, Result, Ok, Err}
 use Rattle.httparse.specs.Grammar.{RequestHead, print_request, ReadsRequest, HasNoRequest, NeverHasRequest, MayBecomeRequest, EndsInTarget}
 use Rattle.pm_base.specs.declared.code.Code.{Code}
 use Rattle.pm_base.specs.declared.code.Code.TheVariants.{H1, H2}
@@ -20,7 +20,7 @@ MOST_HEAD = 16384
 abbrev pub looked_at : List ℕ → List ℕ
 looked_at bytes = take MOST_HEAD bytes
 
--- A whole head stands at the front. There is at most one.
+-- A whole head is at the start. There is at most one.
 abbrev pub HasHead : List ℕ → RequestHead → Type 0
 HasHead bytes head = (rest : List ℕ) × ReadsRequest (looked_at bytes) head rest
 
@@ -31,7 +31,7 @@ pub record IsOf (head : RequestHead) (request : Request) : Type 0 where
   pub moment : request.moment ≡ moment_of (fields_of head)
   pub close : request.close ≡ closes head.minor (fields_of head)
 
--- The request is the one at the front of the bytes, and this is left behind it.
+-- The request is the one at the start of the bytes, and this is left after it.
 pub record IsFirst (bytes : List ℕ) (request : Request) (after : List ℕ) : Type 0 where
   pub head : RequestHead
   pub reads : ReadsRequest bytes head (request.body ++ after)
@@ -39,7 +39,7 @@ pub record IsFirst (bytes : List ℕ) (request : Request) (after : List ℕ) : T
   pub size : body_size head ≡ Bytes (length request.body)
   pub parts : IsOf head request
 
--- No whole head stands at the front, and more bytes may make one: some do, or the bytes end inside a target, whose test
+-- No whole head is at the start, and more bytes may make one: some do, or the bytes end inside a target, whose test
 -- for UTF-8 waits for its end.
 pub record IsUnfinished (bytes : List ℕ) : Type 0 where
   pub none : HasNoRequest bytes
@@ -51,7 +51,7 @@ HasNoHead bytes H1 = NeverHasRequest (looked_at bytes)
 HasNoHead bytes H2 = (MOST_HEAD ≤ length bytes) × IsUnfinished (looked_at bytes)
 HasNoHead bytes _ = ⊥
 
--- The request at the front is refused by this code: it has no head, or its head breaks a rule.
+-- The request at the start is refused by this code: it has no head, or its head breaks a rule.
 abbrev pub IsRefused : List ℕ → Code → Type 0
 IsRefused bytes code =
     HasNoHead bytes code ⊎ ((head : RequestHead) × HasHead bytes head × (body_size head ≡ Refused code))
@@ -75,10 +75,23 @@ pub record EndsInBody (bytes : List ℕ) : Type 0 where
 abbrev pub EndsInRequest : List ℕ → Type 0
 EndsInRequest bytes = EndsInHead bytes ⊎ EndsInBody bytes
 
--- The bytes hold no whole head, and too few for H2.
+-- So many bytes are looked at again after each read.
+abbrev pub MOST_SOON : ℕ
+MOST_SOON = 1024
+
+-- The first of the bytes may begin a head: all of them where there are at most 1,024, and else at least half of them.
+pub record MayBegin (bytes : List ℕ) : Type 0 where
+  pub seen : ℕ
+  pub within : seen ≤ length bytes
+  pub half : length bytes ≤ 2 * seen
+  pub soon : length bytes ≤ MOST_SOON → seen ≡ length bytes
+  pub may : MayBecomeRequest (take seen bytes)
+
+-- The bytes hold no whole head, too few for H2, and H1 wasn't decided when they were looked at last.
 pub record HoldsNoHead (bytes : List ℕ) : Type 0 where
   pub few : length bytes < MOST_HEAD
   pub none : HasNoRequest bytes
+  pub begins : MayBegin bytes
 
 -- The bytes hold no whole request, and a head that they hold breaks no rule.
 abbrev pub HoldsNoRequest : List ℕ → Type 0
@@ -125,7 +138,7 @@ abbrev pub MayBeTold : List ℕ → Next → Type 0
 MayBeTold bytes (next.Framing H1 at) = EndsInTarget bytes
 MayBeTold bytes _ = ⊥
 
--- What the bytes from this offset on begin with, and what is left behind it: a request, the end, a refusal, or a request
+-- What the bytes from this offset on begin with, and what is left after it: a request, the end, a refusal, or a request
 -- that is cut short. The cases exclude each other, but that H1 may stand for H2 or a cut where the bytes that are looked at
 -- end inside a target: that is a law, `one_next`.
 abbrev pub IsNext : List ℕ → ℕ → Next → List ℕ → Type 0

@@ -1,5 +1,5 @@
 //! The reading of a body.
-ghost use Rattle.std.specs.Prelude.{◌≡◌, ◌≢◌, ◌≤◌, ◌+◌, ◌<◌, false, Ok, Err, length, vec_len, IfOk};
+ghost use Rattle.std.specs.Prelude.{◌≡◌, ◌≢◌, ◌≤◌, ◌+◌, ◌<◌, false, Ok, Err, length, vec_len, [], IfOk, OnErr};
 ghost use Rattle.pm_outside.specs.Causes.{faults_after};
 ghost use Rattle.pm_outside.specs.Feed.{left_to, KnowsEnd, MOST_READ, MOST_AHEAD, ReadsOn};
 ghost use Rattle.pm_http.specs.Stream.{is_read_fault};
@@ -32,6 +32,7 @@ pub fn fill<S: Source>(
     ensures cut { S.IsTold → result ≡ Ok false → feed.new.given < MOST_READ }
     ensures limit { S.IsTold → result ≡ Err HttpError.Limit → BodyStops feed.old.given (left_to feed.old (S.left source.old)) (vec_len body.old) }
     ensures fault { S.IsTold → result ≡ Err HttpError.ReadFault → FailsInBody (left_to feed.old (S.left source.old)) (left_to feed.new (S.left source.new)) (vec_len body.old) }
+    ensures emptied { OnErr result (feed.new.buffered ≡ []) }
     ensures no_memory { result ≢ Err HttpError.Memory }
     ensures counted { S.faults source.new ≡ faults_after (is_read_fault result) (S.faults source.old) }
 {

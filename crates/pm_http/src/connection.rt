@@ -1,4 +1,4 @@
-//! Whether a connection is closed behind the reply.
+//! Whether a connection is closed after the reply.
 ghost use Rattle.std.specs.Prelude.{◌≡◌, map, length};
 ghost use Rattle.std.specs.List.{All, list_any};
 ghost use Rattle.httparse.specs.Spans.{IsHeaderWithin, header_bytes};

@@ -3,7 +3,7 @@ ghost use Rattle.std.specs.Prelude.{◌≡◌, ◌==◌};
 ghost use Rattle.std.specs.List.{position};
 ghost use Rattle.pm_http.specs.Target.{path_of, query_of};
 
-/// The path and the query of a target: the bytes before and behind its first `?`.
+/// The path and the query of a target: the bytes before and after its first `?`.
 pub fn path_and_query(target: &[u8]) -> (&[u8], &[u8])
     ensures path { result.0.now ≡ path_of target.now }
     ensures query { result.1.now ≡ query_of target.now }

@@ -37,7 +37,7 @@ pub enum QueryError {
     /// A name is none of a listing's or comes twice, or a time is no moment of 1 to 12 digits.
     #[error("a name of the query is unknown or comes twice, or a time is no moment of 1 to 12 digits")]
     L2,
-    /// Out of memory.
+    /// Out of memory. The pairs before one that isn't plain text break no rule.
     #[error("out of memory while a query was read")]
     Memory,
 }

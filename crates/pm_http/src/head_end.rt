@@ -1,15 +1,16 @@
 //! The reading of a head.
-ghost use Rattle.std.specs.Prelude.{◌≡◌, ◌≢◌, ◌<◌, ◌≤◌, ◌++◌, false, [], ℕ, List, None, length, vec_len, IfOk, IfErr, OnOk, IfSome};
-ghost use Rattle.httparse.specs.Grammar.{HasNoRequest};
+ghost use Rattle.std.specs.Prelude.{◌≡◌, ◌≢◌, ◌<◌, ◌≤◌, ◌*◌, ◌⊎◌, ◌++◌, true, false, [], ℕ, List, None, length, vec_len, IfOk, IfErr, OnOk, IfSome};
+ghost use Rattle.httparse.specs.Grammar.{HasNoRequest, NeverHasRequest};
 ghost use Rattle.pm_outside.specs.Causes.{faults_after};
 ghost use Rattle.pm_outside.specs.Feed.{left_to, KnowsEnd, MOST_READ, MOST_AHEAD, ReadsOn};
-ghost use Rattle.pm_http.specs.Stream.{MOST_HEAD, looked_at, is_read_fault};
-ghost use Rattle.pm_http.specs.Piece.{MOST_PIECE, Gathers, Grows, StopsInHead, EndsHead, StepsHead, HeadStands, PieceStands, IsBegun, IsLast, ShowsEnd, MayGrow};
+ghost use Rattle.pm_http.specs.Stream.{MOST_HEAD, MOST_SOON, MayBegin, looked_at, is_read_fault};
+ghost use Rattle.pm_http.specs.Piece.{MOST_PIECE, Gathers, Grows, StopsInHead, EndsHead, StepsHead, HeadStands, PieceStands, IsBegun, IsSeen, HasNoSpace, EndsBlank, IsLast, ShowsEnd, MayGrow};
 
 use crate::HttpError;
 use crate::piece::{Piece, read_piece};
 use crate::sight::{Sight, look};
 use httparse::spans::{HeaderSpan, RequestSpans};
+use memchr::memchr;
 use pm_outside::{Feed, Source};
 
 /// How the reading of a head ends.
@@ -31,14 +32,17 @@ pub enum HeadEnd {
     Limit,
 }
 
-// The most bytes of a head, and those of a line with its line feed.
+// The most bytes of a head, those of a line with its line feed, and as many as are looked at again after each read.
 const MOST_HEAD: usize = 16_384;
 
 const MOST_PIECE: usize = 2_049;
 
-/// Gathers the head at the front of what is left, with its fields in `fields`. A line is looked at once, and the whole head
-/// is parsed after the empty line that ends it, so the work is in proportion to the bytes, however they come. It is parsed
-/// once more for each line of over 2,048 bytes, at the most.
+const MOST_SOON: usize = 1_024;
+
+/// Gathers the head at the start of what is left, with its fields in `fields`. A line is looked at once, and the whole head
+/// is parsed after the empty line that ends it. Before each further read of the source the bytes are parsed too, where at
+/// most 1,024 came or where they doubled, so that bytes that no head begins with are refused as soon as they came, and the
+/// work is in proportion to the bytes, however they come.
 pub fn read_head<S: Source>(
     feed: &mut Feed,
     source: &mut S,
@@ -56,23 +60,27 @@ pub fn read_head<S: Source>(
     ensures reads { ReadsOn S.IsTold feed.old feed.new (S.left source.old) (S.left source.new) }
     ensures stands { S.IsTold → IfOk result (HeadStands feed.new.given) }
     ensures stops { S.IsTold → IfErr result (StopsInHead (left_to feed.old (S.left source.old)) (left_to feed.new (S.left source.new))) }
+    ensures emptied { IfErr result (λ e. e ≡ HttpError.ReadFault → feed.new.buffered ≡ []) }
     ensures counted { S.faults source.new ≡ faults_after (is_read_fault result) (S.faults source.old) }
 {
     let mut begun = false;
+    let mut seen = 0;
     'pieces: loop {
-        if let Some(end) = read_on(feed, source, head, fields, &mut begun)? {
+        if let Some(end) = read_on(feed, source, head, fields, &mut begun, &mut seen)? {
             return Ok(end);
         }
     }
 }
 
-// Gathers one piece more. The head is begun where a line was gathered that isn't empty.
+// Gathers one piece more. The head is begun where a space was gathered, and its first `seen` bytes were looked at before a
+// read.
 fn read_on<S: Source>(
     feed: &mut Feed,
     source: &mut S,
     head: &mut Vec<u8>,
     fields: &mut [HeaderSpan],
     begun: &mut bool,
+    seen: &mut usize,
 ) -> Result<Option<HeadEnd>, HttpError>
     requires within { feed.old.given ≤ MOST_READ }
     requires ahead { length feed.old.buffered ≤ MOST_AHEAD }
@@ -80,24 +88,60 @@ fn read_on<S: Source>(
     requires few { vec_len head.old < MOST_HEAD }
     requires room { length fields.old ≡ 64 }
     ensures begun { S.IsTold → IsBegun begun.old head.old.items → OnOk result (IsBegun begun.new head.new.items) }
+    ensures seen { S.IsTold → (all : List ℕ) → IsSeen seen.old head.old.items → Gathers all head.old.items (left_to feed.old (S.left source.old)) → IfOk result (λ o. o ≡ None → IsSeen seen.new head.new.items) }
     ensures steps { S.IsTold → (all : List ℕ) → IsBegun begun.old head.old.items → Gathers all head.old.items (left_to feed.old (S.left source.old)) → IfOk result (StepsHead all head.new.items (left_to feed.new (S.left source.new)) fields.new) }
     ensures grows { IfOk result (λ o. o ≡ None → (vec_len head.old < vec_len head.new) × (vec_len head.new < MOST_HEAD)) }
     ensures shows { IfOk result (λ o. IfSome o (ShowsEnd head.new.items fields.new)) }
     ensures reads { ReadsOn S.IsTold feed.old feed.new (S.left source.old) (S.left source.new) }
     ensures stands { S.IsTold → IfOk result (λ o. IfSome o (HeadStands feed.new.given)) }
-    ensures stops { S.IsTold → (all : List ℕ) → Gathers all head.old.items (left_to feed.old (S.left source.old)) → IfErr result (StopsInHead all (left_to feed.new (S.left source.new))) }
+    ensures stops { S.IsTold → (all : List ℕ) → IsSeen seen.old head.old.items → Gathers all head.old.items (left_to feed.old (S.left source.old)) → IfErr result (StopsInHead all (left_to feed.new (S.left source.new))) }
+    ensures emptied { IfErr result (λ e. e ≡ HttpError.ReadFault → feed.new.buffered ≡ []) }
     ensures counted { S.faults source.new ≡ faults_after (is_read_fault result) (S.faults source.old) }
 {
     if head.reserve(MOST_PIECE).is_err() {
         return out_of_room(head, fields);
     }
+    if !may_go_on(feed, head, fields, seen) {
+        return Ok(Some(HeadEnd::Never));
+    }
+    let at = head.len();
     match read_piece(feed, source, head) {
         Ok(piece) => {
-            *begun = is_begun(*begun, piece);
+            *begun = is_begun(*begun, &head[at..]);
             Ok(judge(piece, *begun, head, fields))
         }
         Err(error) => Err(error),
     }
+}
+
+// Whether more bytes may make a head of the gathered ones, as far as they are looked at: where the feed holds none, so that
+// the source has to be read.
+fn may_go_on(feed: &Feed, head: &[u8], fields: &mut [HeaderSpan], seen: &mut usize) -> bool
+    requires room { length fields.old ≡ 64 }
+    requires few { length head.now < MOST_HEAD }
+    ensures seen { result ≡ true → HasNoRequest head.now → IsSeen seen.old head.now → IsSeen seen.new head.now }
+    ensures may { result ≡ true → HasNoRequest head.now → IsSeen seen.old head.now → feed.now.buffered ≡ [] → MayBegin head.now }
+    ensures never { result ≡ false → NeverHasRequest (looked_at head.now) }
+{
+    if !feed.held().is_empty() || !is_due(head.len(), *seen) {
+        return true;
+    }
+    *seen = head.len();
+    may_grow(head, fields)
+}
+
+// Whether so many bytes are to be looked at, of which the first were.
+fn is_due(size: usize, seen: usize) -> bool
+    ensures { result ≡ false → (size ≤ seen) ⊎ ((MOST_SOON < size) × (size ≤ 2 * seen)) }
+{
+    size > seen && (size <= MOST_SOON || size / 2 >= seen)
+}
+
+// Whether the head is begun with these bytes more: a space ends its method.
+fn is_begun(begun: bool, more: &[u8]) -> bool
+    ensures { result ≡ false → (begun ≡ false) × HasNoSpace more.now }
+{
+    begun || memchr(b' ', more).is_some()
 }
 
 // The answer where there is no memory for the next piece: that no head begins so, where that is decided.
@@ -130,21 +174,17 @@ fn judge(piece: Piece, begun: bool, head: &[u8], fields: &mut [HeaderSpan]) -> O
     match piece {
         Piece::End => at_end(head, fields),
         Piece::Limit => at_limit(head, fields),
-        Piece::Blank if begun => in_between(head, fields),
-        Piece::Blank => unended(head, fields),
+        Piece::Line if may_end(begun, head) => in_between(head, fields),
         Piece::Line => unended(head, fields),
         Piece::Part => unended(head, fields),
     }
 }
 
-// Whether the head is begun after this piece.
-fn is_begun(begun: bool, piece: Piece) -> bool
-    ensures { result ≡ false → (begun ≡ false) × (piece ≡ Piece.Blank) }
+// Whether the gathered bytes may end with the empty line of a head.
+fn may_end(begun: bool, head: &[u8]) -> bool
+    ensures { result ≡ false → (begun ≡ false) ⊎ (EndsBlank head.now → ⊥) }
 {
-    match piece {
-        Piece::Blank => begun,
-        Piece::Line | Piece::Part | Piece::End | Piece::Limit => true,
-    }
+    begun && (head.ends_with(b"\n\n") || head.ends_with(b"\n\r\n"))
 }
 
 // What the gathered bytes tell, where they hold no whole head.

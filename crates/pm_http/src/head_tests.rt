@@ -24,6 +24,16 @@ fn framing_of(alloc: Global, bytes: &[u8]) -> Result<Option<(Code, u64)>, AllocE
     }
 }
 
+// How bytes are refused whose source fails after the read that brought them; nothing where the fault is answered.
+fn refusal_before_a_fault(alloc: Global, bytes: &[u8]) -> Result<Option<Code>, AllocError> {
+    let mut source = MemSource::new(alloc, bytes, &[2])?;
+    let mut feed = Feed::new(alloc)?;
+    match next_request(alloc, &mut feed, &mut source) {
+        Ok(Next::Framing { code, .. }) => Ok(Some(code)),
+        _ => Ok(None),
+    }
+}
+
 // The first request of the bytes.
 fn first_of(alloc: Global, bytes: &[u8]) -> Result<Option<Request>, AllocError> {
     let mut source = MemSource::new(alloc, bytes, &[])?;
@@ -84,6 +94,30 @@ fn a_head_has_at_most_16384_bytes(rt: HostRuntime) -> Result<(), Fail> {
     assert!(rt; first_of(rt.alloc(), &whole)?.is_some());
     let long = head_of(rt.alloc(), front, 16_385)?;
     assert_eq!(rt; framing_of(rt.alloc(), &long)?, Some((Code::H2, 18)));
+    Ok(())
+}
+
+#[test]
+fn bytes_that_decide_are_answered_without_a_further_read(rt: HostRuntime) -> Result<(), Fail> {
+    let mut long = Vec::from_slice(rt.alloc(), b"GET / HTTP/1.1\r\nA: ")?;
+    long.resize(16_384, b'b')?;
+    let rows: [(&[u8], Option<Code>); 5] = [
+        (
+            b"\x16\x03\x01\x00\xa5\x01\x00\x00\xa1\x03\x03",
+            Some(Code::H1),
+        ),
+        (b"SSH-2.0-OpenSSH_9.6\r\n", Some(Code::H1)),
+        (long.as_slice(), Some(Code::H2)),
+        (b"GET / HTTP/1.1\r\n", None),
+        (&long[..16_383], None),
+    ];
+    for (bytes, code) in rows {
+        assert_eq!(rt;
+            refusal_before_a_fault(rt.alloc(), bytes)?,
+            code,
+            "at {bytes:?}"
+        );
+    }
     Ok(())
 }
 

@@ -1,7 +1,7 @@
 //! The query of a listing.
 ghost use Rattle.std.specs.Prelude.{◌≡◌};
 ghost use Rattle.std.specs.Option.{option_map};
-ghost use Rattle.pm_http.specs.Query.{pairs_of, listing_query, read_type, read_time, IsListing};
+ghost use Rattle.pm_http.specs.Query.{read_type, read_time, IsListing};
 ghost use Rattle.pm_http.specs.QuerySteps.{one_more, pair_more};
 
 use crate::QueryError;
@@ -20,9 +20,8 @@ pub struct Query {
 }
 
 /// Reads the query of a listing, in the form encoding of the URL standard: names and values are percent-decoded.
-#[tactic(auto, using(crate::proofs::QueryLemmas::nothing_from))]
 pub fn read_query(alloc: Global, query: &[u8]) -> Result<Query, QueryError>
-    ensures { IsListing (listing_query (pairs_of query.now)) result }
+    ensures { IsListing query.now result }
 {
     let mut asked = Query {
         performance: None,

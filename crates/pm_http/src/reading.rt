@@ -1,5 +1,5 @@
 //! The reading of requests.
-ghost use Rattle.std.specs.Prelude.{◌≡◌, ◌≤◌, ◌+◌, ℕ, List, Err, length, map, IfOk, IfErr};
+ghost use Rattle.std.specs.Prelude.{◌≡◌, ◌≤◌, ◌+◌, [], ℕ, List, Err, length, map, IfOk, IfErr};
 ghost use Rattle.std.specs.List.{All};
 ghost use Rattle.httparse.specs.Grammar.{RequestHead};
 ghost use Rattle.httparse.specs.Spans.{IsRequestAt, IsHeaderWithin, header_bytes};
@@ -44,9 +44,10 @@ pub fn next_request<S: Source>(
     ensures limit { S.IsTold → result ≡ Err HttpError.Limit → StopsAtLimit feed.old.given (left_to feed.old (S.left source.old)) }
     ensures within { S.IsTold → IfOk result (λ next. StopsAtLimit feed.old.given (left_to feed.old (S.left source.old)) → MayBeTold (readable feed.old.given (left_to feed.old (S.left source.old))) next) }
 
-    // What was taken at a fault, and out of memory.
+    // What was taken at a fault, which is all that came, and out of memory.
     ensures fault { S.IsTold → result ≡ Err HttpError.ReadFault → StopsAtFault (left_to feed.old (S.left source.old)) (left_to feed.new (S.left source.new)) }
     ensures memory { S.IsTold → result ≡ Err HttpError.Memory → StopsForMemory (left_to feed.old (S.left source.old)) (left_to feed.new (S.left source.new)) }
+    ensures emptied { result ≡ Err HttpError.ReadFault → feed.new.buffered ≡ [] }
     ensures counted { S.faults source.new ≡ faults_after (is_read_fault result) (S.faults source.old) }
 {
     let offset = feed.given();
@@ -84,6 +85,7 @@ fn read_request<S: Source>(
     ensures within { S.IsTold → IfOk result (λ next. StopsAtLimit offset (left_to feed.old (S.left source.old)) → MayBeTold (readable offset (left_to feed.old (S.left source.old))) next) }
     ensures fault { S.IsTold → result ≡ Err HttpError.ReadFault → StopsAtFault (left_to feed.old (S.left source.old)) (left_to feed.new (S.left source.new)) }
     ensures memory { S.IsTold → result ≡ Err HttpError.Memory → StopsForMemory (left_to feed.old (S.left source.old)) (left_to feed.new (S.left source.new)) }
+    ensures emptied { result ≡ Err HttpError.ReadFault → feed.new.buffered ≡ [] }
     ensures counted { S.faults source.new ≡ faults_after (is_read_fault result) (S.faults source.old) }
 {
     let Ok(mut fields) = field_room(alloc) else {
@@ -129,6 +131,7 @@ fn read_rest<S: Source>(
     ensures limit { S.IsTold → (all : List ℕ) → IsGathered all head.now (left_to feed.old (S.left source.old)) fields.now spans → feed.old.given + length (left_to feed.old (S.left source.old)) ≡ offset + length all → result ≡ Err HttpError.Limit → StopsAtLimit offset all }
     ensures within { S.IsTold → (all : List ℕ) → IsGathered all head.now (left_to feed.old (S.left source.old)) fields.now spans → feed.old.given + length (left_to feed.old (S.left source.old)) ≡ offset + length all → IfOk result (λ next. StopsAtLimit offset all → MayBeTold (readable offset all) next) }
     ensures stops { S.IsTold → (all : List ℕ) → IsGathered all head.now (left_to feed.old (S.left source.old)) fields.now spans → IfErr result (StopsAfterHead all (left_to feed.new (S.left source.new))) }
+    ensures emptied { result ≡ Err HttpError.ReadFault → feed.new.buffered ≡ [] }
     ensures counted { S.faults source.new ≡ faults_after (is_read_fault result) (S.faults source.old) }
 {
     match size_by_head(head, fields, spans) {

@@ -9,7 +9,7 @@ pub struct Request {
     pub target: Text,
     /// The value of the first Pm-Moment field, without the spaces and tabs around it.
     pub moment: Option<Text>,
-    /// Whether the connection is closed behind the reply: the version is HTTP/1.0, or a Connection field says so.
+    /// Whether the connection is closed after the reply: the version is HTTP/1.0, or a Connection field says so.
     pub close: bool,
     pub body: Blob,
 }

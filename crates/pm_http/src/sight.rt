@@ -1,4 +1,4 @@
-//! What some bytes show of the head at their front.
+//! What some bytes show of the head at their start.
 ghost use Rattle.std.specs.Prelude.{◌≡◌, ◌≤◌, length, IfOk};
 ghost use Rattle.httparse.specs.Spans.{RequestOverflows};
 ghost use Rattle.pm_http.specs.Stream.{MOST_HEAD};
@@ -8,7 +8,7 @@ use httparse::spans::{EMPTY_HEADER_SPAN, HeaderSpan, RequestSpans, parse_request
 use httparse::{Error, Status};
 use std::alloc::{AllocError, Global};
 
-/// What some bytes show of the head at their front.
+/// What some bytes show of the head at their start.
 #[derive(Clone, Copy)]
 pub enum Sight {
     /// A whole head of at most 64 fields.

@@ -30,14 +30,14 @@ impl Source for Slow<'_> {
     }
 }
 
-// Requests that stand one behind the other.
+// Requests, one after the other.
 const STREAM: &[u8] =
     b"PUT /jobs/a HTTP/1.1\r\nPm-Moment: \t12 \r\nContent-Length: 2\r\npm-moment: 3\r\n\r\n{}\
 \r\nDELETE /jobs/a?b HTTP/1.0\n\n\
 GET /files HTTP/1.1\nconnection: keep-alive ,\tClose\n\r\n\
 \n\r\n\nPOST /events HTTP/1.1\r\ncontent-length:  000000000011 \r\nContent-length2: 7\r\nConnection: closed\r\n\r\nA line\n\r\n\r\n";
 
-// How many requests stand in it.
+// How many requests it has.
 const MANY: usize = 4;
 
 // Whether a request is the one that the plain reading finds.

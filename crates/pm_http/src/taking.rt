@@ -1,5 +1,5 @@
 //! Bytes taken into the rest of a buffer.
-ghost use Rattle.std.specs.Prelude.{◌≡◌, ◌≤◌, ◌<◌, ◌+◌, ◌++◌, [], Ok, Err, length, vec_len, take, slice_range, IfOk, MatchResult};
+ghost use Rattle.std.specs.Prelude.{◌≡◌, ◌≤◌, ◌<◌, ◌+◌, ◌++◌, [], Ok, Err, length, vec_len, take, slice_range, IfOk, OnErr, MatchResult};
 ghost use Rattle.pm_outside.specs.Causes.{faults_after};
 ghost use Rattle.pm_outside.specs.Feed.{left_to, KnowsEnd, MOST_READ, ReadsOn, is_failed};
 
@@ -21,6 +21,8 @@ pub fn take_after<S: Source>(
     ensures reads { ReadsOn S.IsTold feed.old feed.new (S.left source.old) (S.left source.new) }
     ensures end { result ≡ Ok 0 → at < vec_len buffer.old → feed.old.given < MOST_READ }
     ensures limit { result ≡ Err FeedError.Limit → feed.old.given ≡ MOST_READ }
+    ensures wanted { OnErr result (feed.old.buffered ≡ []) }
+    ensures emptied { OnErr result (feed.new.buffered ≡ []) }
     ensures counted { S.faults source.new ≡ faults_after (is_failed result) (S.faults source.old) }
 {
     feed.take(source, &mut buffer[at..])

@@ -1,36 +1,18 @@
-use Rattle.std.proofs.Common.{◌≡◌, inl, inr, List, ℕ, length, Err, ap, ◌∙◌, subst, arith, IfOk}
-use Rattle.pm_outside.specs.Feed.{left_to}
-use Rattle.pm_outside.specs.declared.feed.FeedError.{FeedError}
-use Rattle.pm_http.specs.Piece.{Moves, BeginsLine}
-use Rattle.pm_http.proofs.PieceLemmas.{moved-line}
+use Rattle.std.proofs.Common.{◌≡◌, ◌+◌, ◌<◌, ◌≤◌, length, ◌∙◌, arith}
+use Rattle.std.proofs.lemmas.Bool.Decides.{nat_tests}
+use Rattle.pm_http.proofs.PieceLemmas.{still_front, moved-piece, plain_held}
 use Rattle.pm_http.proofs.piece.read_piece.Goals as goal
 
-pub returns-else-line-gt-MOST_LINE-clause-moves : goal.returns-else-line-gt-MOST_LINE-clause-moves
-returns-else-line-gt-MOST_LINE-clause-moves g c =
+pub returns-in-Ok-clause-moves : goal.returns-in-Ok-clause-moves
+returns-in-Ok-clause-moves g c =
+    let at = c.len-at.result in
+    let most = c.piece_size-most.result in
+    let size : at ≡ length c.args.head.now.items = omega (arith, c.len-at.ensures, c.args.head.now.ok.0) in
+    let start = c.in-Ok.ensures.front ∙ still_front _ _ _ at most size c.widen.ensures.items in
+    let some : 0 < c.in-Ok.count = grind (arith, nat_tests, c.in-Ok.count-test, c.in-Ok.count-is) in
+    let few : c.in-Ok.count ≤ most = omega (arith, c.in-Ok.ensures.bound, c.widen.ensures.len) in
+    let fits : at + c.in-Ok.count ≤ length c.take_after.new.buffer.items = omega (arith, c.in-Ok.ensures.bound, c.in-Ok.ensures.room, c.take_after.new.buffer.ok.0) in
+    let plain = plain_held most c.args.feed.now.buffered _ (rw c.held.ensures.value at c.piece_size-most.ensures.within) (rw c.held.ensures.value at c.piece_size-most.ensures.plain) in
     λ told.
-    let answer = c.in-Ok-Whole.ensures.line told in
-    let line = rw c.in-Ok-Whole.field-0-is at answer in
-    moved-line c.args.head.now.items (left_to c.args.feed.now (g.S.Source.left c.args.source.now)) c.bytes-line.result.now
-    (left_to c.line.new.self (g.S.Source.left c.line.new.source)) c.push_line.new.head.items c.push_line.result c.given-before.result c.given.result
-    (rw c.bytes-line.ensures line.0)
-    (rw (c.given.ensures.value, c.given-before.ensures.value) (c.line.ensures.reads.given told))
-    c.push_line.ensures
-
-pub returns-in-Ok-Long-clause-moves : goal.returns-in-Ok-Long-clause-moves
-returns-in-Ok-Long-clause-moves g c =
-    λ told.
-    let answer = c.in-Ok-Long.ensures.line told in
-    let long = rw c.in-Ok-Long.field-0-is at answer in
-    subst (λ (before : List ℕ). IfOk c.take_part.result (Moves c.args.head.now.items before c.take_part.new.head.items (left_to c.take_part.new.feed (g.S.Source.left c.take_part.new.source)))) long.3
-    (c.take_part.ensures.moves told (rw long.3 (inl long.1)))
-
-pub returns-in-Err-Limit-clause-moves : goal.returns-in-Err-Limit-clause-moves
-returns-in-Err-Limit-clause-moves g c =
-    λ told.
-    let left = left_to c.args.feed.now (g.S.Source.left c.args.source.now) in
-    let meets = c.line.ensures.limit told (c.in-Err-Limit.is ∙ ap (λ (e : FeedError). Err e) c.in-Err-Limit.field-0-is) in
-    let same = c.in-Err-Limit.ensures.stays told in
-    let given : c.line.new.self.given ≡ c.args.feed.now.given = omega (arith, c.line.ensures.reads.given told, ap length same) in
-    let begins : BeginsLine c.line.new.self.given left = inr (rw given meets.unanswered.open_line) in
-    subst (λ (before : List ℕ). IfOk c.take_part-in-Err-Limit.result (Moves c.args.head.now.items before c.take_part-in-Err-Limit.new.head.items (left_to c.take_part-in-Err-Limit.new.feed (g.S.Source.left c.take_part-in-Err-Limit.new.source)))) same
-    (c.take_part-in-Err-Limit.ensures.moves told (rw same begins))
+    moved-piece _ _ _ _ _ at c.in-Ok.count most _ start some few fits (c.in-Ok.ensures.told told).0 c.truncate-in-Ok.ensures.items plain
+    (rw c.deref.ensures.value at c.kind_of.ensures)
