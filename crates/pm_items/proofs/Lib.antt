@@ -1,0 +1,16 @@
+pub mod UnstoredLemmas
+pub mod KeptLemmas
+pub mod PrefixLemmas
+pub mod PairLemmas
+pub mod OpenLemmas
+pub mod EndedLemmas
+pub mod StandingLemmas
+pub mod CountedLemmas
+pub mod AlikeLemmas
+pub mod CellLemmas
+pub mod PeriodLemmas
+pub mod MeasuredLemmas
+pub mod SequenceLemmas
+pub mod EndLemmas
+pub mod ToldLemmas
+pub mod PlaceLemmas

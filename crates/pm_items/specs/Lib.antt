@@ -1,0 +1,5 @@
+pub mod Items
+pub mod Unstored
+pub mod Kept
+pub mod Alike
+pub mod Places
