@@ -13,4 +13,7 @@ pub mod MeasuredLemmas
 pub mod SequenceLemmas
 pub mod EndLemmas
 pub mod ToldLemmas
+pub mod SubscribedLemmas
+pub mod CursorLemmas
+pub mod LaterLemmas
 pub mod PlaceLemmas

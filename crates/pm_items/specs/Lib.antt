@@ -2,4 +2,6 @@ pub mod Items
 pub mod Unstored
 pub mod Kept
 pub mod Alike
+pub mod Subscribed
+pub mod Cursors
 pub mod Places

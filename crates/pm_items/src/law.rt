@@ -2,6 +2,8 @@
 ghost use Rattle.pm_items.specs.Unstored.{UnstoredChangesNothing, UnstoredInTick};
 ghost use Rattle.pm_items.specs.Kept.{KeptBegins, KeptGrows, KeptIsKept, LastItem, PrefixesKept};
 ghost use Rattle.pm_items.specs.Alike.{ItemsTell, SameItems};
+ghost use Rattle.pm_items.specs.Subscribed.{SameSubscriptions};
+ghost use Rattle.pm_items.specs.Cursors.{BootsStoreNone, CursorsBounded, CursorsStay, SameCursors};
 ghost use Rattle.pm_items.specs.Places.{PlacesUntold};
 
 /// An entry without an item is a Now or an event, in the tick of the last moment. A law: the call does nothing.
@@ -52,4 +54,29 @@ pub fn items_tell()
 /// Items don't tell at which places jobs and monitors were made. A law: the call does nothing.
 pub fn places_untold()
     ensures { PlacesUntold }
+{}
+
+/// Histories with the same items have the same subscriptions. A law: the call does nothing.
+pub fn same_subscriptions()
+    ensures { SameSubscriptions }
+{}
+
+/// Histories with the same items have the same stored cursors. A law: the call does nothing.
+pub fn same_cursors()
+    ensures { SameCursors }
+{}
+
+/// The cursors of a Booked item change nothing of what was stored before it. A law: the call does nothing.
+pub fn cursors_stay()
+    ensures { CursorsStay }
+{}
+
+/// A Boot stores no cursors, whatever gap it ends. A law: the call does nothing.
+pub fn boots_store_none()
+    ensures { BootsStoreNone }
+{}
+
+/// A stored cursor is at most the number of notices. A law: the call does nothing.
+pub fn cursors_bounded()
+    ensures { CursorsBounded }
 {}

@@ -4,6 +4,7 @@
 mod law;
 
 pub use law::{
-    items_tell, kept_begins, kept_grows, kept_is_kept, last_item, places_untold, prefixes_kept,
-    same_items, unstored_changes_nothing, unstored_in_tick,
+    boots_store_none, cursors_bounded, cursors_stay, items_tell, kept_begins, kept_grows,
+    kept_is_kept, last_item, places_untold, prefixes_kept, same_cursors, same_items,
+    same_subscriptions, unstored_changes_nothing, unstored_in_tick,
 };
