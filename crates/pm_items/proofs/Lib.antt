@@ -13,6 +13,7 @@ pub mod MeasuredLemmas
 pub mod SequenceLemmas
 pub mod EndLemmas
 pub mod ToldLemmas
+pub mod SoFarLemmas
 pub mod SubscribedLemmas
 pub mod CursorLemmas
 pub mod LaterLemmas

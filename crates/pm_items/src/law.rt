@@ -2,6 +2,7 @@
 ghost use Rattle.pm_items.specs.Unstored.{UnstoredChangesNothing, UnstoredInTick};
 ghost use Rattle.pm_items.specs.Kept.{KeptBegins, KeptGrows, KeptIsKept, LastItem, PrefixesKept};
 ghost use Rattle.pm_items.specs.Alike.{ItemsTell, SameItems};
+ghost use Rattle.pm_items.specs.Sequences.{SameLastCut, SameSequences};
 ghost use Rattle.pm_items.specs.Subscribed.{SameSubscriptions};
 ghost use Rattle.pm_items.specs.Cursors.{BootsStoreNone, CursorsBounded, CursorsStay, SameCursors};
 ghost use Rattle.pm_items.specs.Places.{PlacesUntold};
@@ -54,6 +55,16 @@ pub fn items_tell()
 /// Items don't tell at which places jobs and monitors were made. A law: the call does nothing.
 pub fn places_untold()
     ensures { PlacesUntold }
+{}
+
+/// Histories with the same items agree on whether the last tick is cut. A law: the call does nothing.
+pub fn same_last_cut()
+    ensures { SameLastCut }
+{}
+
+/// Histories with the same items have the same value sequences, so the same flags. A law: the call does nothing.
+pub fn same_sequences()
+    ensures { SameSequences }
 {}
 
 /// Histories with the same items have the same subscriptions. A law: the call does nothing.
