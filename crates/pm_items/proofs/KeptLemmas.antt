@@ -67,6 +67,9 @@ kept_begins (h ▷ e) is = by (item_of h e) refl (kept_begins h is.0)
         let adds : AddsUnstored (h ▷ e) (h ▷ e) = record { more = []; unstored = tt; is = refl } in
         subst (λ x. AddsUnstored x (h ▷ e)) (sym (kept-some h e item some)) adds
 
+pub kept-history : (h : History) → IsHistory h → IsHistory (kept h)
+kept-history h is = let adds = kept_begins h is in grown-history (kept h) adds.more (subst IsHistory adds.is is)
+
 -- ---- the last item
 
 kept-size : (h : History) → size (kept h) ≤ size h
@@ -107,7 +110,7 @@ last_item (h ▷ e) others item is same items = by (item_of h e) refl
         let twice = kept_is_kept h in
         record {
           g = kept h;
-          history = grown-history (kept h) adds.more (subst IsHistory adds.is is.0);
+          history = kept-history h is.0;
           between = adds.more;
           e = e;
           follows = subst (λ x. MayFollow x e) adds.is is.1;

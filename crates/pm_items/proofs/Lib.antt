@@ -17,4 +17,6 @@ pub mod SoFarLemmas
 pub mod SubscribedLemmas
 pub mod CursorLemmas
 pub mod LaterLemmas
+pub mod PermittedLemmas
+pub mod AllPermittedLemmas
 pub mod PlaceLemmas

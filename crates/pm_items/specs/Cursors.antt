@@ -25,14 +25,14 @@ cursor_in [] cursors id = 0
 cursor_in (i ∷ is) [] id = 0
 cursor_in (i ∷ is) (c ∷ cs) id = if bytes_eq i id then c else cursor_in is cs id
 
-module _ (terms : Side → List ℕ → Terms) (taken : List (List ℕ)) where
-  -- The cursors of the Booked item of the next entry, where it has one.
-  abbrev pub cursors_taken : History → List ℕ
-  cursors_taken h = slice_index_or taken (bookings h) []
+-- The cursors of the item of the next entry, where that is a Booked.
+abbrev pub cursors_taken : List (List ℕ) → History → List ℕ
+cursors_taken taken h = slice_index_or taken (bookings h) []
 
+module _ (terms : Side → List ℕ → Terms) (taken : List (List ℕ)) where
   -- The stored cursor of an id after an item that comes after h, where it was this one before it.
   abbrev pub cursor_by : History → List ℕ → ℕ → Option Item → ℕ
-  cursor_by h id old (Some (Booked moment tick cells)) = cursor_in (subscribers_after h) (cursors_taken h) id
+  cursor_by h id old (Some (Booked moment tick cells)) = cursor_in (subscribers_after h) (cursors_taken taken h) id
   cursor_by h id old (Some (Changed (Subscribed moment name port path))) =
       if bytes_eq name id then length (notices_of terms h) else old
   cursor_by h id old _ = old
@@ -50,7 +50,7 @@ module _ (terms : Side → List ℕ → Terms) (taken : List (List ℕ)) where
 
   -- The same of an item after h, where it is a Booked.
   abbrev pub FitsNext : History → Option Item → Type 0
-  FitsNext h (Some (Booked moment tick cells)) = CursorsFit h (subscribers_after h) (cursors_taken h)
+  FitsNext h (Some (Booked moment tick cells)) = CursorsFit h (subscribers_after h) (cursors_taken taken h)
   FitsNext h _ = Unit {0}
 
   -- The same of each item of a history.

@@ -5,4 +5,5 @@ pub mod Alike
 pub mod Sequences
 pub mod Subscribed
 pub mod Cursors
+pub mod Permitted
 pub mod Places

@@ -5,6 +5,7 @@ ghost use Rattle.pm_items.specs.Alike.{ItemsTell, SameItems};
 ghost use Rattle.pm_items.specs.Sequences.{SameLastCut, SameSequences};
 ghost use Rattle.pm_items.specs.Subscribed.{SameSubscriptions};
 ghost use Rattle.pm_items.specs.Cursors.{BootsStoreNone, CursorsBounded, CursorsStay, SameCursors};
+ghost use Rattle.pm_items.specs.Permitted.{SameAllPermitted, SamePermitted};
 ghost use Rattle.pm_items.specs.Places.{PlacesUntold};
 
 /// An entry without an item is a Now or an event, in the tick of the last moment. A law: the call does nothing.
@@ -90,4 +91,14 @@ pub fn boots_store_none()
 /// A stored cursor is at most the number of notices. A law: the call does nothing.
 pub fn cursors_bounded()
     ensures { CursorsBounded }
+{}
+
+/// Histories that end with an item and have the same items permit the same items. A law: the call does nothing.
+pub fn same_permitted()
+    ensures { SamePermitted }
+{}
+
+/// Where each item of a history is permitted, each item of one with the same items is. A law: the call does nothing.
+pub fn same_all_permitted()
+    ensures { SameAllPermitted }
 {}
