@@ -1,0 +1,10 @@
+pub mod Content
+pub mod Agreement
+pub mod ReportForm
+pub mod Report
+pub mod Permitted
+pub mod Says
+pub mod Reading
+pub mod Body
+pub mod HeaderOf
+pub mod Name

@@ -1,0 +1,19 @@
+//! Why a text is no report.
+
+/// The first refusal of a text in a walk from its start: each value before what stands in it, an object's keys in byte order.
+/// `R5` comes last, where all else is right.
+#[derive(Clone, Copy, Debug, PartialEq, Eq)]
+pub enum ReportError {
+    /// The bytes are no JSON text.
+    R1,
+    /// A value has the wrong type, or a string is not one that may stand there.
+    R3,
+    /// An object has not exactly its keys.
+    R2,
+    /// A number is not whole, or is out of its range.
+    R4,
+    /// A list is empty that may not be, or lengths, times or the order of classes disagree.
+    R5,
+    /// There was too little memory.
+    Memory,
+}

@@ -1,0 +1,5 @@
+pub mod ReadLemmas
+pub mod WriteLemmas
+pub mod FormLemmas
+pub mod NameLemmas
+pub mod KeptLemmas
