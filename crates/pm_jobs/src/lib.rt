@@ -6,6 +6,7 @@ mod error;
 mod fields;
 mod job_reading;
 mod monitor_reading;
+mod writing;
 
 pub use body::{Directions, JobBody, MonitorBody, State, Threshold};
 pub use error::BodyError;
