@@ -6,6 +6,8 @@ mod error;
 mod fields;
 mod job_reading;
 mod monitor_reading;
+#[cfg(test)]
+mod tests;
 mod writing;
 
 pub use body::{Directions, JobBody, MonitorBody, State, Threshold};
