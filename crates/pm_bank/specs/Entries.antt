@@ -1,5 +1,6 @@
 -- Events that were counted: entries, each with its epoch, its slot and its value (this project's own).
 use Rattle.std.specs.Prelude.{◌≡◌, ℕ, ◌+◌, ◌<◌, ◌≤◌, ◌==◌, ◌&&◌, List, [], ◌∷◌, length, All, slice_index_or, if◌then◌else◌}
+use Rattle.pm_meas.specs.declared.cell.TheConstants.{MAX_VALUE}
 use Rattle.pm_meas.specs.declared.cell.Cell.{Cell}
 use Rattle.pm_meas.specs.Cell.{cell_of}
 use Rattle.pm_bank.specs.declared.view.Hit.{Hit}
@@ -31,12 +32,12 @@ count_in e (x ∷ xs) = when e x.epoch 1 + count_in e xs
 
 -- each event is of a slot that there is, and carries a permitted value
 abbrev pub AreSound : ℕ → List Hit → Type 0
-AreSound slots hs = All (λ (h : Hit). (h.slot < slots) × (h.value ≤ 1048575)) hs
+AreSound slots hs = All (λ (h : Hit). (h.slot < slots) × (h.value ≤ MAX_VALUE)) hs
 
 -- each value is a permitted one
 abbrev pub AreSmall : List Entry → Type 0
 AreSmall [] = Unit {0}
-AreSmall (x ∷ xs) = (x.value ≤ 1048575) × AreSmall xs
+AreSmall (x ∷ xs) = (x.value ≤ MAX_VALUE) × AreSmall xs
 
 -- no entry is of a later epoch
 abbrev pub AreUpTo : ℕ → List Entry → Type 0

@@ -1,5 +1,6 @@
 -- A run that is folded slot by slot, and what of it lies in the words.
 use Rattle.std.specs.Prelude.{◌≡◌, ℕ, ◌-◌, ◌*◌, ◌<◌, ◌≤◌, List, [], length, slice_index_or, take}
+use Rattle.pm_meas.specs.declared.cell.TheConstants.{MAX_VALUE}
 use Rattle.pm_meas.specs.declared.cell.Cell.{Cell}
 use Rattle.pm_meas.specs.Cell.{cell_of}
 use Rattle.pm_bank.specs.declared.view.View.{View}
@@ -41,7 +42,7 @@ pub record IsLaidUpTo (n : ℕ) (hs : List Hit) (ps : List Part) (cells : List C
 
 -- how far a fold of n events has come: no cell has more events, nor a greater sum than they can have
 abbrev pub AreBounded : ℕ → List Cell → Type 0
-AreBounded n cells = (s : ℕ) → s < length cells → ((slice_index_or cells s (cell_of [])).n ≤ n) × ((slice_index_or cells s (cell_of [])).sum ≤ 1048575 * (slice_index_or cells s (cell_of [])).n)
+AreBounded n cells = (s : ℕ) → s < length cells → ((slice_index_or cells s (cell_of [])).n ≤ n) × ((slice_index_or cells s (cell_of [])).sum ≤ MAX_VALUE * (slice_index_or cells s (cell_of [])).n)
 
 -- how far a fold has come: the first n events of a run are in the cells
 pub record IsFolding (n slots : ℕ) (hs : List Hit) (cells : List Cell) : Type 0 where

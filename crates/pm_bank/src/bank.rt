@@ -10,7 +10,7 @@ use std::alloc::{AllocError, Global};
 use std::marker::Model;
 
 /// The most slots of a bank.
-pub const MAX_SLOTS: u32 = 4096;
+pub const MAX_SLOTS: u32 = 4_096;
 
 /// The most passes that may be out at a time.
 pub const MAX_WORKERS: u32 = 64;
@@ -25,12 +25,13 @@ pub struct Bank {
 impl Model for Bank {
     ghost use Rattle.std.specs.Prelude.{◌≡◌, ◌+◌, ◌*◌, ◌≤◌};
     ghost use Rattle.pm_bank.specs.Views.{BankView};
+    ghost use Rattle.pm_bank.specs.declared.bank.TheConstants.{MAX_SLOTS};
 
     ghost Value = { BankView };
 
     ghost view = { λ b. record { id = b.table.shared.table_id; slots = b.slots } };
 
-    ghost invariant = { λ b. (b.table.shared.key ≡ b.slots) × (b.table.shared.table_id.words ≡ 8 + 8 * b.slots) × (b.slots ≤ 4096) };
+    ghost invariant = { λ b. (b.table.shared.key ≡ b.slots) × (b.table.shared.table_id.words ≡ 8 + 8 * b.slots) × (b.slots ≤ MAX_SLOTS) };
 }
 
 impl Bank {
@@ -58,7 +59,7 @@ impl Bank {
 
 /// The words of a bank with no event. The least of no value is the greatest number.
 fn blank_words(alloc: Global, slots: u32) -> Result<Vec<u64>, AllocError>
-    requires slots { slots ≤ 4096 }
+    requires slots { slots ≤ MAX_SLOTS }
     ensures size { IfOk result (λ words. length words.items ≡ 8 + 8 * slots) }
     ensures heads { IfOk result (λ words. (i : ℕ) → i < 8 → slice_index words.items i ≡ 0) }
     ensures blank { IfOk result (λ words. (k s e : ℕ) → k < 4 → s < slots → slice_index words.items (cell_word e k s) ≡ close k 0) }

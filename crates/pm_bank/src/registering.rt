@@ -1,5 +1,7 @@
 //! The registering form of a run: of each slot every n-th event is counted (discrete event registration, TS 32.404).
 ghost use Rattle.std.specs.Prelude.{◌≡◌, ℕ, ◌+◌, ◌*◌, ◌^◌, ◌<◌, ◌≤◌, ◌↔◌, All, [], ◌++◌, length, slice_index, slice_index_or, slice_set, IfOk, IsErr, OnErr, OnOk};
+ghost use Rattle.pm_bank.specs.declared.bank.TheConstants.{MAX_SLOTS};
+ghost use Rattle.pm_meas.specs.declared.cell.TheConstants.{MAX_VALUE};
 ghost use Rattle.pm_meas.specs.Cell.{cell_of};
 ghost use Rattle.pm_bank.specs.Entries.{AreSound, AreUpTo, stamped};
 ghost use Rattle.pm_bank.specs.Registering.{registered, with_registered, AreMoved, IsRegistering};
@@ -24,7 +26,7 @@ fn register(hit: Hit, every: &[u32], start: &mut [u64], cells: &mut [Cell])
     requires every { 0 < slice_index every.now hit.slot }
     requires start { slice_index start.old hit.slot < 18446744073709551615 }
     requires value { hit.value ≤ MAX_VALUE }
-    requires room { let cell = slice_index_or cells.old hit.slot (cell_of []) in (cell.n < 4294967295) × (cell.sum ≤ 1048575 * cell.n) }
+    requires room { let cell = slice_index_or cells.old hit.slot (cell_of []) in (cell.n < 4294967295) × (cell.sum ≤ MAX_VALUE * cell.n) }
     ensures start { start.new ≡ slice_set start.old hit.slot (slice_index start.old hit.slot + 1) }
     ensures cells { cells.new ≡ with_registered every.now start.old cells.old hit }
 {
@@ -61,7 +63,7 @@ fn count_some<H: Hits>(
     cells: &mut [Cell],
 ) -> u32
     requires table { (seat.old.table_id ≡ table.now.shared.table_id) × (table.now.shared.table_id.words ≡ 8 + 8 * table.now.shared.key) }
-    requires size { (length cells.old ≡ table.now.shared.key) × (table.now.shared.key ≤ 4096) × (length every.now ≡ table.now.shared.key) × (length start.old ≡ table.now.shared.key) }
+    requires size { (length cells.old ≡ table.now.shared.key) × (table.now.shared.key ≤ MAX_SLOTS) × (length every.now ≡ table.now.shared.key) × (length start.old ≡ table.now.shared.key) }
     requires idle { IsIdle seat.old.me.0 }
     requires every { All (λ n. 0 < n) every.now }
     requires start { All (λ n. n ≤ 2 ^ 63) start.old }

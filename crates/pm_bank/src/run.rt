@@ -1,5 +1,6 @@
 //! A run of events, folded in plain memory before it arrives, and laid into the words slot by slot.
 ghost use Rattle.std.specs.Prelude.{◌≡◌, ℕ, ◌+◌, ◌*◌, ◌<◌, ◌≤◌, [], ◌++◌, length, slice_index_or, IfOk};
+ghost use Rattle.pm_bank.specs.declared.bank.TheConstants.{MAX_SLOTS};
 ghost use Rattle.pm_meas.specs.Cell.{cell_of};
 ghost use Rattle.pm_bank.specs.Entries.{AreSound, AreUpTo, stamped};
 ghost use Rattle.pm_bank.specs.Steps.{passing, IsIdle, IsVisiting};
@@ -76,7 +77,7 @@ pub(crate) fn lay_cell(
 /// Lays each slot that the run touched, and empties its cell.
 fn lay_cells<H: Hits>(table: &Counters, seat: &mut Seat<(), View>, epoch: u32, cells: &mut [Cell])
     requires table { (seat.old.table_id ≡ table.now.shared.table_id) × (table.now.shared.table_id.words ≡ 8 + 8 * table.now.shared.key) }
-    requires size { (length cells.old ≡ table.now.shared.key) × (table.now.shared.key ≤ 4096) }
+    requires size { (length cells.old ≡ table.now.shared.key) × (table.now.shared.key ≤ MAX_SLOTS) }
     requires visit { IsVisiting seat.old.me.0 epoch × (seat.old.me.0.parts ≡ []) }
     requires folds { AreRunCells H.hits cells.old }
     ensures same { (seat.new.table_id ≡ seat.old.table_id) × (length cells.new ≡ length cells.old) }
@@ -101,7 +102,7 @@ pub(crate) fn count_cells<H: Hits>(
     cells: &mut [Cell],
 ) -> u32
     requires table { (seat.old.table_id ≡ table.now.shared.table_id) × (table.now.shared.table_id.words ≡ 8 + 8 * table.now.shared.key) }
-    requires size { (length cells.old ≡ table.now.shared.key) × (table.now.shared.key ≤ 4096) }
+    requires size { (length cells.old ≡ table.now.shared.key) × (table.now.shared.key ≤ MAX_SLOTS) }
     requires idle { IsIdle seat.old.me.0 }
     requires count { (0 < count) × (count ≡ length H.hits) }
     requires quota { length seat.old.me.0.entries + count ≤ seat.old.me.0.quota }
@@ -126,7 +127,7 @@ pub(crate) fn count_hits<H: Hits>(
     cells: &mut [Cell],
 ) -> u32
     requires table { (seat.old.table_id ≡ table.now.shared.table_id) × (table.now.shared.table_id.words ≡ 8 + 8 * table.now.shared.key) }
-    requires size { (length cells.old ≡ table.now.shared.key) × (table.now.shared.key ≤ 4096) }
+    requires size { (length cells.old ≡ table.now.shared.key) × (table.now.shared.key ≤ MAX_SLOTS) }
     requires idle { IsIdle seat.old.me.0 }
     requires hits { (0 < length hits.now) × (length hits.now ≤ 4294967295) × (H.hits ≡ hits.now) }
     requires quota { length seat.old.me.0.entries + length hits.now ≤ seat.old.me.0.quota }

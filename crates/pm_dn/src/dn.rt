@@ -33,7 +33,7 @@ impl Dn {
     pub fn read(alloc: Global, bytes: &[u8]) -> Result<Dn, DnError>
         ensures read { IfOk result (λ name. IsNameOf bytes.now name) }
         ensures alone { IfOk result (λ name. (other : List Part) → IsNameOf bytes.now other → other ≡ name) }
-        ensures refused { IfErr result (λ code. (code ≡ DnError.Memory) ⊎ (name_refusal bytes.now ≡ Some code)) }
+        ensures refused { IfErr result (λ code. ((code ≡ DnError.Memory) × (name_refusal bytes.now ≡ None)) ⊎ (name_refusal bytes.now ≡ Some code)) }
     {
         Dn::check(bytes)?;
         match Text::from_slice(alloc, bytes) {

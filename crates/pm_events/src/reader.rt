@@ -3,10 +3,11 @@ ghost use Rattle.std.specs.Prelude.{◌≡◌, ◌≤◌, ◌<◌, ◌++◌, ◌
 ghost use Rattle.pm_base.specs.Number.{is_moment, number_of};
 ghost use Rattle.pm_events.specs.Event.{read_event};
 
-use crate::event_reading::{GREATEST_VALUE, read_event};
+use crate::event_reading::read_event;
 use crate::last_word::last_number;
 use crate::{Event, SlotTable};
 use pm_base::{Code, read_moment};
+use pm_meas::MAX_VALUE;
 
 // The digits of a moment of today, and the space behind them.
 const WORD: usize = 11;
@@ -40,7 +41,7 @@ impl<'a> Reader<'a> {
     #[inline(always)]
     pub fn read(&mut self, line: &[u8]) -> Result<Event, Code>
         ensures event { result ≡ read_event self.old.slots.now line.now }
-        ensures sound { IfOk result (λ event. (event.value ≤ 1048575) × (event.slot < length self.old.slots.now)) }
+        ensures sound { IfOk result (λ event. (event.value ≤ MAX_VALUE) × (event.slot < length self.old.slots.now)) }
         ensures slots { self.new.slots.now ≡ self.old.slots.now }
     {
         match self.usual(line) {
@@ -53,7 +54,7 @@ impl<'a> Reader<'a> {
     #[inline(always)]
     fn usual(&self, line: &[u8]) -> Option<Event>
         ensures event { IfSome result (λ event. read_event self.now.slots.now line.now ≡ Ok event) }
-        ensures sound { IfSome result (λ event. (event.value ≤ 1048575) × (event.slot < length self.now.slots.now)) }
+        ensures sound { IfSome result (λ event. (event.value ≤ MAX_VALUE) × (event.slot < length self.now.slots.now)) }
     {
         if !begins(line, &self.text) {
             return None;
@@ -67,7 +68,7 @@ impl<'a> Reader<'a> {
     #[inline(never)]
     fn unusual(&mut self, line: &[u8]) -> Result<Event, Code>
         ensures event { result ≡ read_event self.old.slots.now line.now }
-        ensures sound { IfOk result (λ event. (event.value ≤ 1048575) × (event.slot < length self.old.slots.now)) }
+        ensures sound { IfOk result (λ event. (event.value ≤ MAX_VALUE) × (event.slot < length self.old.slots.now)) }
         ensures slots { self.new.slots.now ≡ self.old.slots.now }
     {
         self.note(line);
@@ -127,13 +128,13 @@ fn is_same(a: &[u8; 8], b: &[u8; 8]) -> bool
 #[inline(always)]
 fn event_behind(slots: &SlotTable, moment: u64, words: &[u8]) -> Option<Event>
     ensures event { IfSome result (λ event. (word : List ℕ) → is_moment word ≡ true → moment ≡ number_of word → read_event slots.now (word ++ 32 ∷ words.now) ≡ Ok event) }
-    ensures sound { IfSome result (λ event. (event.value ≤ 1048575) × (event.slot < length slots.now)) }
+    ensures sound { IfSome result (λ event. (event.value ≤ MAX_VALUE) × (event.slot < length slots.now)) }
 {
     if words.len() > 2_000 {
         return None;
     }
     let last = last_number(words)?;
-    if last.value > GREATEST_VALUE {
+    if last.value > MAX_VALUE as u64 {
         return None;
     }
     let slot = slots.find(&words[..last.space])?;

@@ -1,5 +1,6 @@
 -- The form of a report (TS 32.432; keys and words are this project's own).
 use Rattle.std.specs.Prelude.{ℕ, ◌&&◌, Bool, List, Option, codes, take, drop, bytes_eq, is_none}
+use Rattle.pm_base.specs.declared.moment.TheConstants.{LAST_MOMENT}
 use Rattle.pm_dn.specs.Refusal.{name_refusal}
 use Rattle.pm_form.specs.Form.{Form, tested, mapped}
 use Rattle.pm_form.specs.Values.{text, fixed, flag, whole, whole_or_null}
@@ -24,7 +25,7 @@ element_name s = bytes_eq (take 15 s) (codes "ManagedElement=") && dn_id (elemen
 
 -- A moment.
 abbrev pub moment : Form ℕ
-moment = whole 253402300799
+moment = whole LAST_MOMENT
 
 -- Null, or any whole number below 2 ^ 64.
 abbrev pub result_form : Form (Option ℕ)

@@ -5,7 +5,7 @@ use Rattle.std.proofs.Math.Seq.{take-append-add}
 use Rattle.httparse.specs.Grammar.{NeverHasRequest, EndsInTarget}
 use Rattle.httparse.specs.declared.spans.HeaderSpan.{HeaderSpan}
 use Rattle.httparse.specs.declared.spans.RequestSpans.{RequestSpans}
-use Rattle.pm_outside.specs.Feed.{MOST_READ}
+use Rattle.pm_outside.specs.declared.feed.TheConstants.{MOST_READ}
 use Rattle.pm_http.specs.declared.size.BodySize.TheVariants.{Bytes}
 use Rattle.pm_http.specs.Head.{body_size}
 use Rattle.pm_http.specs.Stream.{looked_at, readable, StopsAtLimit, EndsInHead, EndsInRequest}

@@ -1,6 +1,7 @@
 -- Reads through a feed, one after the other.
 use Rattle.std.proofs.Common.{◌≤◌, ℕ, List, length, refl, ◌∙◌}
-use Rattle.pm_outside.specs.Feed.{FeedState, KnowsEnd, MOST_READ, MOST_AHEAD, ReadsOn}
+use Rattle.pm_outside.specs.Feed.{FeedState, KnowsEnd, MOST_AHEAD, ReadsOn}
+use Rattle.pm_outside.specs.declared.feed.TheConstants.{MOST_READ}
 
 -- Nothing is read.
 pub reads_nothing : (IsTold : Type 0) (feed : FeedState) (left : List ℕ) → feed.given ≤ MOST_READ → length feed.buffered ≤ MOST_AHEAD → (IsTold → KnowsEnd feed left)

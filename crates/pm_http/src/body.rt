@@ -1,7 +1,8 @@
 //! The reading of a body.
 ghost use Rattle.std.specs.Prelude.{◌≡◌, ◌≢◌, ◌≤◌, ◌+◌, ◌<◌, false, Ok, Err, length, vec_len, [], IfOk, OnErr};
 ghost use Rattle.pm_outside.specs.Causes.{faults_after};
-ghost use Rattle.pm_outside.specs.Feed.{left_to, KnowsEnd, MOST_READ, MOST_AHEAD, ReadsOn};
+ghost use Rattle.pm_outside.specs.Feed.{left_to, KnowsEnd, MOST_AHEAD, ReadsOn};
+ghost use Rattle.pm_outside.specs.declared.feed.TheConstants.{MOST_READ};
 ghost use Rattle.pm_http.specs.Stream.{is_read_fault};
 ghost use Rattle.pm_http.specs.Piece.{BodyStops, Fills, FailsInBody};
 

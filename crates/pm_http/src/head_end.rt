@@ -2,7 +2,8 @@
 ghost use Rattle.std.specs.Prelude.{◌≡◌, ◌≢◌, ◌<◌, ◌≤◌, ◌*◌, ◌⊎◌, ◌++◌, true, false, [], ℕ, List, None, length, vec_len, IfOk, IfErr, OnOk, IfSome};
 ghost use Rattle.httparse.specs.Grammar.{HasNoRequest, NeverHasRequest};
 ghost use Rattle.pm_outside.specs.Causes.{faults_after};
-ghost use Rattle.pm_outside.specs.Feed.{left_to, KnowsEnd, MOST_READ, MOST_AHEAD, ReadsOn};
+ghost use Rattle.pm_outside.specs.Feed.{left_to, KnowsEnd, MOST_AHEAD, ReadsOn};
+ghost use Rattle.pm_outside.specs.declared.feed.TheConstants.{MOST_READ};
 ghost use Rattle.pm_http.specs.Stream.{MOST_HEAD, MOST_SOON, MayBegin, looked_at, is_read_fault};
 ghost use Rattle.pm_http.specs.Piece.{MOST_PIECE, Gathers, Grows, StopsInHead, EndsHead, StepsHead, HeadStands, PieceStands, IsBegun, IsSeen, HasNoSpace, EndsBlank, IsLast, ShowsEnd, MayGrow};
 

@@ -1,7 +1,8 @@
 //! Bytes taken into the rest of a buffer.
 ghost use Rattle.std.specs.Prelude.{◌≡◌, ◌≤◌, ◌<◌, ◌+◌, ◌++◌, [], Ok, Err, length, vec_len, take, slice_range, IfOk, OnErr, MatchResult};
 ghost use Rattle.pm_outside.specs.Causes.{faults_after};
-ghost use Rattle.pm_outside.specs.Feed.{left_to, KnowsEnd, MOST_READ, ReadsOn, is_failed};
+ghost use Rattle.pm_outside.specs.Feed.{left_to, KnowsEnd, ReadsOn, is_failed};
+ghost use Rattle.pm_outside.specs.declared.feed.TheConstants.{MOST_READ};
 
 use pm_outside::{Feed, FeedError, Source};
 

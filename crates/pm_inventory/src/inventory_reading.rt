@@ -7,7 +7,8 @@
 ghost use Rattle.std.specs.Prelude.{◌≡◌, ◌+◌, ◌-◌, ◌≤◌, ◌<◌, ◌↔◌, length, take, IsTrue, IfOk, Err};
 ghost use Rattle.pm_outside.specs.Causes.{faults_after};
 ghost use Rattle.pm_base.specs.Lines.{HasNoLine};
-ghost use Rattle.pm_outside.specs.Feed.{left_to, KnowsEnd, MOST_READ, ReadsOn};
+ghost use Rattle.pm_outside.specs.Feed.{left_to, KnowsEnd, ReadsOn};
+ghost use Rattle.pm_outside.specs.declared.feed.TheConstants.{MOST_READ};
 ghost use Rattle.pm_inventory.specs.Inventory.{InventoryState, end_line};
 ghost use Rattle.pm_inventory.specs.InventoryReading.{ReadsInventory, EndsAt, stop_error, is_read_failed};
 

@@ -1,5 +1,6 @@
 //! The parts of a file name's text, each taken off the front.
 ghost use Rattle.std.specs.Prelude.{◌≡◌, ◌≤◌, ◌<◌, ◌%◌, ◌↔◌, ℕ, List, None, IsTrue, MatchOption, length};
+ghost use Rattle.pm_base.specs.declared.moment.TheConstants.{LAST_MOMENT};
 ghost use Rattle.std.specs.Option.{ForSome};
 ghost use Rattle.std.specs.List.{AllPass, prefix_len};
 ghost use Rattle.std.specs.Char.{is_ascii_digit};
@@ -105,7 +106,7 @@ fn looks_like_date(bytes: &[u8]) -> bool
 fn next_at(begin: u64, minute: u64) -> u64
     requires whole { begin % 60 ≡ 0 }
     requires in_day { minute < 1440 }
-    requires small { begin ≤ 253402300799 }
+    requires small { begin ≤ LAST_MOMENT }
     ensures { IsEnd begin None minute result }
 {
     let start = begin % DAY_SECONDS / 60;
@@ -125,7 +126,7 @@ pub(crate) fn split_end(
     bytes: &[u8],
 ) -> Option<(u64, &[u8])>
     requires whole { begin % 60 ≡ 0 }
-    requires small { begin ≤ 253402300799 }
+    requires small { begin ≤ LAST_MOMENT }
     requires small_day { ForSome day (λ day. day ≤ 2932896) }
     ensures { MatchOption result (¬ BeginsWith (ReadsEnd (type_of kind) begin day) bytes.now)
         (λ split. ReadsEnd (type_of kind) begin day bytes.now split.0 split.1.now) }

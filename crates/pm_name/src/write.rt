@@ -1,5 +1,6 @@
 //! The text of a file name, from the front.
 ghost use Rattle.std.specs.Prelude.{◌≡◌, ◌≤◌, ◌<◌, ◌+◌, ◌/◌, List, ◌++◌, ℕ, OnOk, IfOk, length, codes};
+ghost use Rattle.pm_base.specs.declared.moment.TheConstants.{LAST_MOMENT};
 ghost use Rattle.pm_name.specs.Calendar.{Date, IsDate, IsDateOf, day_number};
 ghost use Rattle.pm_name.specs.FileName.{IsFileSpan, IsEndDate, date_text, time_text, type_text, minute_of_day};
 ghost use Rattle.pm_name.specs.Kind.{type_of};
@@ -13,7 +14,7 @@ use std::alloc::{AllocError, Global};
 
 /// Appends the date of a moment.
 fn push_date(text: &mut Vec<u8>, moment: u64) -> Result<(), AllocError>
-    requires { moment ≤ 253402300799 }
+    requires { moment ≤ LAST_MOMENT }
     ensures { OnOk result ((date : Date) × IsDateOf date moment × (text.new.items ≡ text.old.items ++ date_text date)) }
 {
     let date = CalendarDate::from_day_number((moment / DAY_SECONDS) as u32);
@@ -37,7 +38,7 @@ fn push_time(text: &mut Vec<u8>, moment: u64) -> Result<(), AllocError>
 
 /// Appends Enddate, which stands in a name of type `C` alone.
 fn push_end_date(text: &mut Vec<u8>, kind: FileKind, end: u64) -> Result<(), AllocError>
-    requires { end ≤ 253402300799 }
+    requires { end ≤ LAST_MOMENT }
     ensures { OnOk result ((end_date : List ℕ) × IsEndDate (type_of kind) end end_date × (text.new.items ≡ text.old.items ++ end_date)) }
 {
     match kind {
@@ -57,8 +58,8 @@ pub(crate) fn write_times(
     begin: u64,
     end: u64,
 ) -> Result<Vec<u8>, AllocError>
-    requires begin_in { begin ≤ 253402300799 }
-    requires end_in { end ≤ 253402300799 }
+    requires begin_in { begin ≤ LAST_MOMENT }
+    requires end_in { end ≤ LAST_MOMENT }
     ensures { IfOk result (λ text. IsTimesText (type_of kind) begin end text.items) }
 {
     let mut text = Vec::new(alloc);

@@ -1,5 +1,6 @@
 -- What a feed holds, and what its calls take of what is left to it and its source (this project's own).
 use Rattle.std.specs.Prelude.{Result, Ok, Err, ◌≡◌, ◌⊎◌, ◌+◌, ◌-◌, ◌^◌, ◌<◌, ◌≤◌, ℕ, Bool, true, false, List, [], ◌∷◌, ◌++◌, length, take}
+use Rattle.pm_outside.specs.declared.feed.TheConstants.{MOST_READ}
 use Rattle.pm_outside.specs.declared.feed.FeedError.{FeedError}
 use Rattle.pm_outside.specs.declared.feed.FeedError.TheVariants.{Failed, Limit}
 use Rattle.pm_outside.specs.declared.line.Line.{Line}
@@ -33,10 +34,6 @@ abbrev pub IsNextLine : List ℕ → Line → List ℕ → List ℕ → Type 0
 IsNextLine before (Whole n) line after = IsFirstLine before line after × (n ≡ length line)
 IsNextLine before Long line after = (MOST_LINE < length before) × HasNoLineFeed (take (MOST_LINE + 1) before) × (line ≡ []) × (after ≡ before)
 IsNextLine before End line after = (before ≡ []) × (line ≡ []) × (after ≡ [])
-
--- How many bytes a feed takes from its source at the most.
-abbrev pub MOST_READ : ℕ
-MOST_READ = 2 ^ 40
 
 -- As many bytes as may be read stand before the end of the next line, and before the end of the source is found.
 pub record MeetsLimit (feed : FeedState) (left : List ℕ) : Type 0 where

@@ -1,6 +1,7 @@
 -- What the fields of a feed mean.
-use Rattle.std.specs.Prelude.{◌≡◌, ◌-◌, ◌<◌, ◌≤◌, ◌^◌, true, length, slice_range}
+use Rattle.std.specs.Prelude.{◌≡◌, ◌-◌, ◌<◌, ◌≤◌, true, length, slice_range}
 use Rattle.pm_outside.specs.Feed.{FeedState}
+use Rattle.pm_outside.specs.declared.feed.TheConstants.{MOST_READ}
 use Rattle.pm_outside.specs.declared.feed.Feed.TheInside.{Inside}
 
 -- The state that the fields hold.
@@ -20,5 +21,5 @@ pub record IsOrdered (f : Inside) : Type 0 where
   pub line : f.line ≤ f.stop
   pub stop : f.stop ≤ 65536
   pub held : f.end - f.start ≤ f.read
-  pub most : f.read ≤ 2 ^ 40
-  pub before_end : f.ended ≡ true → f.read < 2 ^ 40
+  pub most : f.read ≤ MOST_READ
+  pub before_end : f.ended ≡ true → f.read < MOST_READ

@@ -1,7 +1,8 @@
 -- What the lines of a source go on with (this project's own).
 use Rattle.std.specs.Prelude.{◌≡◌, ◌+◌, ◌-◌, ◌<◌, ◌≤◌, ℕ, List, [], ◌∷◌, ◌++◌, length, take, Result, Ok, Err}
 use Rattle.pm_base.specs.Lines.{MOST_LINE, HasNoLineFeed, HasNoLine}
-use Rattle.pm_outside.specs.Feed.{FeedState, MOST_READ}
+use Rattle.pm_outside.specs.Feed.{FeedState}
+use Rattle.pm_outside.specs.declared.feed.TheConstants.{MOST_READ}
 use Rattle.pm_outside.specs.declared.feed.FeedError.{FeedError}
 use Rattle.pm_outside.specs.declared.feed.FeedError.TheVariants.{Failed, Limit}
 use Rattle.pm_outside.specs.declared.lines.NextLine.{NextLine}

@@ -8,7 +8,7 @@ ghost use Rattle.std.specs.Io.{ReadsAtMost};
 ghost use Rattle.pm_outside.specs.Causes.{faults_after};
 ghost use Rattle.pm_outside.specs.Outside.{Gives};
 ghost use Rattle.pm_base.specs.Lines.{HasNoLine, MOST_LINE};
-ghost use Rattle.pm_outside.specs.Feed.{FeedState, left_to, KnowsEnd, IsNextLine, MOST_READ, MOST_AHEAD, MeetsLimit, IsSpent, is_failed, ReadsOn};
+ghost use Rattle.pm_outside.specs.Feed.{FeedState, left_to, KnowsEnd, IsNextLine, MOST_AHEAD, MeetsLimit, IsSpent, is_failed, ReadsOn};
 
 use crate::buffer::{move_to_front, read_after};
 use crate::copying::copy_front;
@@ -16,21 +16,25 @@ use crate::line::{Found, find_line};
 use crate::{Line, Source};
 use std::alloc::{AllocError, Global};
 use std::marker::Model;
+use thiserror::Error;
 
 /// Why a feed doesn't answer.
-#[derive(Clone, Copy, Debug, PartialEq, Eq)]
+#[derive(Clone, Copy, Debug, PartialEq, Eq, Error)]
 pub enum FeedError {
     /// The source failed, and counted one fault.
+    #[error("the input could not be read")]
     Failed,
     /// 1,099,511,627,776 bytes were taken from the source, and neither the bytes in the buffer nor a known end of the source
     /// give the answer.
+    #[error("the input has more than 1099511627776 bytes")]
     Limit,
 }
 
-// The bytes of a buffer, and the most bytes that are taken from a source.
+// The bytes of a buffer.
 const ROOM: usize = 65_536;
 
-const MOST: u64 = 1_099_511_627_776;
+/// The most bytes that a feed takes from its source.
+pub const MOST_READ: u64 = 1_099_511_627_776;
 
 /// A buffer between a source and its reader.
 #[derive(Debug, Drop)]
@@ -251,7 +255,7 @@ impl Feed {
         ensures limit { result ≡ Err FeedError.Limit → self.old.given + length self.old.buffered ≡ MOST_READ }
         ensures counted { S.faults source.new ≡ faults_after (is_failed result) (S.faults source.old) }
     {
-        if self.read >= MOST {
+        if self.read >= MOST_READ {
             return Err(FeedError::Limit);
         }
         move_to_front(&mut self.buffer, self.start, self.end);
@@ -259,7 +263,7 @@ impl Feed {
         self.start = 0;
         self.line = 0;
         self.stop = 0;
-        let room = (ROOM - self.end).min((MOST - self.read) as usize);
+        let room = (ROOM - self.end).min((MOST_READ - self.read) as usize);
         match read_after(source, &mut self.buffer, self.end, room) {
             Ok(count) => {
                 self.end += count;

@@ -12,7 +12,7 @@ mod source;
 #[cfg(test)]
 mod tests;
 
-pub use feed::{Feed, FeedError};
+pub use feed::{Feed, FeedError, MOST_READ};
 pub use line::Line;
 pub use lines::{NextLine, next_line};
 pub use outside::{Failed, Sink, Source};

@@ -8,8 +8,11 @@ ghost use Rattle.std.specs.Result.{is_err};
 ghost use Rattle.pm_outside.specs.Causes.{faults_after};
 ghost use Rattle.pm_outside.specs.Outside.{Gives, Takes};
 
+use thiserror::Error;
+
 /// An object of the outside failed, and counted one fault.
-#[derive(Clone, Copy, Debug, PartialEq, Eq)]
+#[derive(Clone, Copy, Debug, PartialEq, Eq, Error)]
+#[error("an object outside the program failed")]
 pub struct Failed;
 
 /// A source of bytes, as a file, a connection or the standard input.

@@ -20,7 +20,8 @@ use Rattle.pm_tally.specs.Taking.{TakesLine, WritesLine, WritesSome, stop_end}
 use Rattle.pm_tally.specs.Finishing.{IsEnd, HasText, Finishes, TakesLast, WritesLast}
 use Rattle.pm_base.specs.WholeLines.{TakesLines}
 use Rattle.pm_inventory.proofs.WholeLinesLemmas.{takes-none, takes-next}
-use Rattle.pm_outside.specs.Feed.{MOST_READ, MOST_AHEAD, IsFirstLine}
+use Rattle.pm_outside.specs.Feed.{MOST_AHEAD, IsFirstLine}
+use Rattle.pm_outside.specs.declared.feed.TheConstants.{MOST_READ}
 use Rattle.pm_outside.specs.NextLine.{IsOneLine, IsLastLine, IsAtLimit}
 use Rattle.pm_tally.specs.Outcome.{ran, IsRefused, IsStopped, IsInterrupted, IsTallied}
 use Rattle.pm_tally.specs.declared.counting.Counting.{Counting}

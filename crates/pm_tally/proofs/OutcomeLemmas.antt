@@ -3,7 +3,8 @@ use Rattle.std.proofs.Common.{◌≡◌, ◌+◌, ◌-◌, ◌≤◌, ◌++◌, 
 use Rattle.std.proofs.lemmas.List.{append-nil, append_cancel_right}
 use Rattle.std.specs.List.{All}
 use Rattle.pm_base.specs.Lines.{MOST_LINE, HasNoLineFeed, HasNoLine, lines_of}
-use Rattle.pm_outside.specs.Feed.{MOST_READ, MOST_AHEAD}
+use Rattle.pm_outside.specs.Feed.{MOST_AHEAD}
+use Rattle.pm_outside.specs.declared.feed.TheConstants.{MOST_READ}
 use Rattle.pm_inventory.specs.Slot.{event_slots}
 use Rattle.pm_base.specs.WholeLines.{text_of_lines}
 use Rattle.pm_inventory.specs.Inventory.{InventoryState}

@@ -21,7 +21,7 @@ use Rattle.pm_events.specs.declared.event.Event.{Event}
 use Rattle.pm_events.proofs.EventLemmas.{eqb_other, events_in-other, events_of-more, registered-more, registered-other, registered-same, registered_in-last}
 use Rattle.pm_tally.specs.Tally.{good_lines, tick_lines, lines_before}
 use Rattle.pm_tally.specs.Outcome.{ran, IsRefused, IsTallied, IsOutcome}
-use Rattle.pm_outside.specs.Feed.{MOST_READ}
+use Rattle.pm_outside.specs.declared.feed.TheConstants.{MOST_READ}
 use Rattle.pm_tally.specs.Plain.{AreFew, IsByRule, FindsFirst, EndsBy}
 use Rattle.pm_tally.specs.declared.plain_events.Refused.{Refused}
 use Rattle.pm_tally.specs.declared.tally_end.TallyEnd.{TallyEnd}

@@ -2,7 +2,8 @@
 use Rattle.std.specs.Prelude.{◌≡◌, ◌+◌, ◌<◌, ◌≤◌, ◌⊎◌, ℕ, List, [], ◌∷◌, ◌++◌, length, All, Some}
 use Rattle.pm_base.specs.Lines.{HasNoLineFeed, HasNoLine, lines_of}
 use Rattle.pm_base.specs.declared.code.Code.{Code}
-use Rattle.pm_outside.specs.Feed.{MOST_READ, MOST_AHEAD}
+use Rattle.pm_outside.specs.Feed.{MOST_AHEAD}
+use Rattle.pm_outside.specs.declared.feed.TheConstants.{MOST_READ}
 use Rattle.pm_inventory.specs.Slot.{Slot, event_slots}
 use Rattle.pm_events.specs.Event.{events_of, refusal}
 use Rattle.pm_base.specs.WholeLines.{text_of_lines}

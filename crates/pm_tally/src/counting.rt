@@ -1,14 +1,15 @@
 //! What a tally keeps of the events so far: of the last tick alone.
 ghost use Rattle.std.specs.Prelude.{◌≡◌, ◌≤◌, ◌*◌, ◌+◌, ◌<◌, ◌++◌, ◌∷◌, [], ℕ, List, None, IsTrue, false, length, map, IfOk, if◌then◌else◌};
+ghost use Rattle.pm_meas.specs.declared.cell.TheConstants.{MAX_VALUE};
 ghost use Rattle.pm_base.specs.Moment.{tick_of};
 ghost use Rattle.pm_inventory.specs.Slot.{Slot};
 ghost use Rattle.pm_events.specs.Event.{order_refusal};
 ghost use Rattle.pm_events.specs.declared.event.Event.{Event};
 ghost use Rattle.pm_tally.specs.Counting.{AreClear, Counts, CountsEvent};
 
-use crate::slot_count::{MOST_REGISTERED, SlotCount};
+use crate::slot_count::SlotCount;
 use pm_base::{Code, tick};
-use pm_events::{Event, SlotTable};
+use pm_events::{Event, MOST_REGISTERED, SlotTable};
 use std::alloc::{AllocError, Global};
 
 /// The last moment, and of its tick how many events were registered and the count of each slot.
@@ -61,7 +62,7 @@ impl Counting {
 
     /// Counts an event of the same tick.
     pub fn add(&mut self, event: &Event)
-        requires value { event.now.value ≤ 1048575 }
+        requires value { event.now.value ≤ MAX_VALUE }
         requires slot { event.now.slot < length self.old.counts.items }
         requires later { self.old.moment ≤ event.now.moment }
         requires same { tick_of self.old.moment ≡ tick_of event.now.moment }
@@ -74,7 +75,7 @@ impl Counting {
 
     /// Begins a later tick, with its first event.
     pub fn begin(&mut self, event: &Event)
-        requires value { event.now.value ≤ 1048575 }
+        requires value { event.now.value ≤ MAX_VALUE }
         requires slot { event.now.slot < length self.old.counts.items }
         requires later { tick_of self.old.moment < tick_of event.now.moment }
         ensures many { length self.new.counts.items ≡ length self.old.counts.items }
@@ -86,7 +87,7 @@ impl Counting {
     }
 
     fn count(&mut self, event: &Event)
-        requires value { event.now.value ≤ 1048575 }
+        requires value { event.now.value ≤ MAX_VALUE }
         requires slot { event.now.slot < length self.old.counts.items }
         requires room { self.old.registered < 1073741824 }
         ensures { CountsEvent self.old event.now self.new }

@@ -4,9 +4,8 @@ ghost use Rattle.pm_inventory.specs.Slot.{Slot};
 ghost use Rattle.pm_events.specs.Event.{last_moment, events_in, events_at, is_registered, registered, registered_one, order_refusal, read_event, refusal};
 ghost use Rattle.pm_tally.specs.Plain.{FindsGood};
 
-use crate::slot_count::MOST_REGISTERED;
 use pm_base::{Code, tick};
-use pm_events::{Event, SlotTable, read_event};
+use pm_events::{Event, MOST_REGISTERED, SlotTable, read_event};
 use std::alloc::{AllocError, Global};
 
 /// The events of the good lines.

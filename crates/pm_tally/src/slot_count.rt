@@ -1,11 +1,10 @@
 //! What a tally keeps of a slot.
 ghost use Rattle.std.specs.Prelude.{◌≡◌, ◌+◌, ◌*◌, ◌<◌, ◌≤◌, ◌++◌, ◌∷◌, [], ℕ, List, length};
+ghost use Rattle.pm_meas.specs.declared.cell.TheConstants.{MAX_VALUE};
 ghost use Rattle.pm_meas.specs.Cell.{cell_of};
 
+use pm_events::MOST_REGISTERED;
 use pm_meas::Cell;
-
-/// The most events that are registered in a tick.
-pub const MOST_REGISTERED: u32 = 1_073_741_824;
 
 /// The fold of a slot's registered values in a tick, and how many events it had since the last one that was registered.
 #[derive(Clone, Copy, Debug)]
@@ -13,7 +12,7 @@ pub struct SlotCount {
     pub cell: Cell,
     pub seen: u32,
     pub registers_each: u32,
-    ghost sound: { cell.sum ≤ cell.n * 1048575 },
+    ghost sound: { cell.sum ≤ cell.n * MAX_VALUE },
     ghost below: { seen < registers_each },
     ghost range: { registers_each ≤ 1000 },
 }
@@ -42,7 +41,7 @@ impl SlotCount {
 
     /// Counts an event, and answers whether it is registered.
     pub fn count(&mut self, value: u32) -> bool
-        requires { value ≤ 1048575 }
+        requires { value ≤ MAX_VALUE }
         ensures { IsStep self.old value self.new result }
     {
         let seen = self.seen + 1;
@@ -58,10 +57,10 @@ impl SlotCount {
 
 // A slot has at most as many values as its tick has registered events, so there is room in a tally that counts them.
 fn add(cell: &mut Cell, value: u32)
-    requires value { value ≤ 1048575 }
-    requires sound { cell.old.sum ≤ cell.old.n * 1048575 }
+    requires value { value ≤ MAX_VALUE }
+    requires sound { cell.old.sum ≤ cell.old.n * MAX_VALUE }
     ensures fold { (values : List ℕ) → cell.old ≡ cell_of values → length values < 1073741824 → cell.new ≡ cell_of (values ++ value ∷ []) }
-    ensures sound { cell.new.sum ≤ cell.new.n * 1048575 }
+    ensures sound { cell.new.sum ≤ cell.new.n * MAX_VALUE }
 {
     if cell.n < u64::from(MOST_REGISTERED) {
         cell.add(value);

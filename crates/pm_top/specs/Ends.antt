@@ -1,7 +1,7 @@
 -- How the ends of commands show in the status of the program (this project's own).
 use Rattle.std.specs.Prelude.{◌≡◌, Bool, true, false}
 use Rattle.pm_base.specs.declared.code.Code.TheVariants.{Z1}
-use Rattle.pm_outside.specs.Feed.{MOST_READ}
+use Rattle.pm_outside.specs.declared.feed.TheConstants.{MOST_READ}
 use Rattle.pm_tally.specs.declared.tally_end.TallyEnd.{TallyEnd}
 use Rattle.pm_tally.specs.declared.tally_end.TallyEnd.TheVariants as tally
 use Rattle.pm_top.specs.declared.status.Status.{Status}

@@ -1,6 +1,7 @@
 use Rattle.std.proofs.Common.{◌≡◌, ◌+◌, ◌-◌, ◌*◌, ◌<◌, ◌⊎◌, true, false, cond, length}
 use Rattle.pm_base.specs.Lines.{HasNoLine}
-use Rattle.pm_outside.specs.Feed.{left_to, KnowsEnd, MOST_READ}
+use Rattle.pm_outside.specs.Feed.{left_to, KnowsEnd}
+use Rattle.pm_outside.specs.declared.feed.TheConstants.{MOST_READ}
 use Rattle.pm_outside.proofs.feed.Feed.line.Given as goal
 
 abbrev pub invariant-reads : goal.invariant-reads
