@@ -5,7 +5,8 @@ use mathlib.Core.Option.{some}
 use lib.ListN.{get_elem?}
 use Rattle.pm_bank.specs.declared.view.View.{View}
 use Rattle.pm_bank.specs.declared.view.Entry.{Entry}
-use Rattle.pm_bank.specs.Entries.{AreUpTo}
+use Rattle.pm_bank.specs.declared.view.Numbers.{Numbers}
+use Rattle.pm_bank.specs.Entries.{AreUpTo, when}
 use Rattle.pm_bank.specs.Words.{op, fold_of}
 use Rattle.pm_bank.specs.Rule.{total, gone, here, part, Phase, Fits, Gates, Kept}
 use Rattle.pm_bank.specs.Steps.{passing}
@@ -19,7 +20,7 @@ use Rattle.pm_bank.proofs.PassLemmas.{IsPassStep, moves, seats_after}
 pub gate_epoch : (n e t : ℕ) → n ≡ e * 4294967296 + t → t ≤ 1073741824 → n / 4294967296 ≡ e
 gate_epoch n e t is small = omega (arith, is, small)
 
-module _ (slots : ℕ) (words : List ℕ) (views : List View) (k : Kept slots words views) (id b q : ℕ) (m : ℕ) (es : List Entry) (room : length es + m ≤ q) (here_is : get_elem? views id ≡ some (passing b q 0 0 [] es)) where
+module _ (slots : ℕ) (words : List ℕ) (views : List View) (k : Kept slots words views) (id : ℕ) (nums next : Numbers) (b q a m : ℕ) (es : List Entry) (room : length es + m ≤ q) (here_is : get_elem? views id ≡ some (passing nums b q 0 0 [] es)) (own : when k.phase.epoch a m ≡ m) (others : (e : ℕ) → (k.phase.epoch ≡ e → ⊥) → when e a m ≡ 0) where
   abbrev p : Phase
   p = k.phase
 
@@ -27,10 +28,10 @@ module _ (slots : ℕ) (words : List ℕ) (views : List View) (k : Kept slots wo
   E = k.phase.epoch
 
   abbrev was : View
-  was = passing b q 0 0 [] es
+  was = passing nums b q 0 0 [] es
 
   abbrev now : View
-  now = passing b q E m [] es
+  now = passing next b q a m [] es
 
   abbrev n : ℕ
   n = slice_index words 0
@@ -43,15 +44,15 @@ module _ (slots : ℕ) (words : List ℕ) (views : List View) (k : Kept slots wo
       let old = k.seats.fits id was here_is in
       let few = count-at_most E es in
       record {
-        within = let one = when-same E m in omega (arith, few, room, one);
-        past = λ e lt. let none = when-other e E m (λ z. omega (arith, lt, z)) in let zero_is = when-zero e 0 in let o = old.past e lt in omega (arith, none, o, zero_is);
+        within = let one = own in omega (arith, few, room, one);
+        past = λ e lt. let none = others e (λ z. omega (arith, lt, z)) in let zero_is = when-zero e 0 in let o = old.past e lt in omega (arith, none, o, zero_is);
         one = λ x. absurd (true≢false (sym x));
         idle = λ _ z. absurd (omega (arith, z));
         backed = λ _. refl;
         single = omega arith;
         since_le = old.since_le;
-        born = λ e lt. let none = when-other e E m (λ z. let le = old.since_le in omega (arith, lt, z, le)) in let zero_is = when-zero e 0 in let o = old.born e lt in omega (arith, none, o, zero_is);
-        shut = λ e closed. when-other e E m (λ z. closed.behind (sym z));
+        born = λ e lt. let none = others e (λ z. let le = old.since_le in omega (arith, lt, z, le)) in let zero_is = when-zero e 0 in let o = old.born e lt in omega (arith, none, o, zero_is);
+        shut = λ e closed. others e (λ z. closed.behind (sym z));
         small = old.small;
       }
 
@@ -64,8 +65,8 @@ module _ (slots : ℕ) (words : List ℕ) (views : List View) (k : Kept slots wo
         quota_same = refl;
         met_same = refl;
         fits = now_fits;
-        older = λ e apart. let none = when-other e E m apart in let zero_is = when-zero e 0 in omega (arith, none, zero_is);
-        fewer = λ e apart. let none = when-other e E m apart in omega (arith, none);
+        older = λ e apart. let none = others e apart in let zero_is = when-zero e 0 in omega (arith, none, zero_is);
+        fewer = λ e apart. let none = others e apart in omega (arith, none);
       }
 
   stays_word : (j : ℕ) → j ≢ 0 → slice_index changed j ≡ slice_index words j
@@ -81,7 +82,7 @@ module _ (slots : ℕ) (words : List ℕ) (views : List View) (k : Kept slots wo
         gate =
             let long : 0 < length words = (let c = k.size in omega (arith, c)) in
             let here_now : slice_index changed 0 ≡ (n + m) % 18446744073709551616 = rw get_or-set_same refl in
-            let t = moves p views k.seats id was now here_is step (here E) in let one = when-same E m in let zero_is = when-zero E 0 in
+            let t = moves p views k.seats id was now here_is step (here E) in let one = own in let zero_is = when-zero E 0 in
             let w = k.gates.gate in let b = (seats_after p views k.seats id was now here_is step).bound E in let s = k.gates.fits in omega (arith, here_now, t, one, zero_is, w, b, s);
         now = stays_word (1 + E % 2) (λ z. omega (arith, z)) ∙ k.gates.now ∙ sym (goes E);
         before = λ un x is. stays_word (1 + x % 2) (λ z. omega (arith, z)) ∙ k.gates.before un x is ∙ sym (goes x);
@@ -89,7 +90,7 @@ module _ (slots : ℕ) (words : List ℕ) (views : List View) (k : Kept slots wo
       }
 
   part_same : (j e s : ℕ) → part j e s now ≡ part j e s was
-  part_same j e s = ap (op j (fold_of j e s es)) (when-zero e E ∙ sym (when-zero e 0))
+  part_same j e s = ap (op j (fold_of j e s es)) (when-zero e a ∙ sym (when-zero e 0))
 
   still : IsStill slots p views (set views id now)
   still =
@@ -112,23 +113,29 @@ module _ (slots : ℕ) (words : List ℕ) (views : List View) (k : Kept slots wo
         cells = cells_stay slots p words changed views (set views id now) k.cells (λ i le. stays_word i (λ z. omega (arith, le, z))) (λ j e s _ _. merged_stays views id was now here_is j e s (part_same j e s));
       }
 
-  pub arrives_epoch : n / 4294967296 ≡ E
-  arrives_epoch = gate_epoch n E (total (here E) views) k.gates.gate (k.seats.bound E)
+-- the epoch of the gate, where a pass with no open visit reads it
+module _ (slots : ℕ) (words : List ℕ) (views : List View) (k : Kept slots words views) (id : ℕ) (nums : Numbers) (b q : ℕ) (es : List Entry) (here_is : get_elem? views id ≡ some (passing nums b q 0 0 [] es)) where
+  abbrev gate : ℕ
+  gate = slice_index words 0
 
-  pub arrives_late : (b ≤ n / 4294967296) × AreUpTo (n / 4294967296) es
+  gate_is : gate / 4294967296 ≡ k.phase.epoch
+  gate_is = gate_epoch gate k.phase.epoch (total (here k.phase.epoch) views) k.gates.gate (k.seats.bound k.phase.epoch)
+
+  pub arrives_late : (b ≤ gate / 4294967296) × AreUpTo (gate / 4294967296) es
   arrives_late =
-      let is = arrives_epoch in
-      let old = k.seats.fits id was here_is in
+      let is = gate_is in
+      let old = k.seats.fits id (passing nums b q 0 0 [] es) here_is in
       let le = old.since_le in
-      ((omega (arith, is, le)), up_to-none (n / 4294967296) es (λ e lt. let o = old.past e (omega (arith, is, lt)) in omega (arith, o)))
+      ((omega (arith, is, le)), up_to-none (gate / 4294967296) es (λ e lt. let o = old.past e (omega (arith, is, lt)) in omega (arith, o)))
 
-  pub arrives : Kept slots changed (set views id (passing b q (n / 4294967296) m [] es))
-  arrives = subst (λ (e : ℕ). Kept slots changed (set views id (passing b q e m [] es))) (sym arrives_epoch) kept_at
+  pub arrives : (m : ℕ) → length es + m ≤ q → Kept slots (set words 0 ((gate + m) % 18446744073709551616)) (set views id (passing nums b q (gate / 4294967296) m [] es))
+  arrives m room =
+      subst (λ (e : ℕ). Kept slots (set words 0 ((gate + m) % 18446744073709551616)) (set views id (passing nums b q e m [] es))) (sym gate_is)
+      (kept_at slots words views k id nums nums b q k.phase.epoch m es room here_is (when-same k.phase.epoch m) (λ e apart. when-other e k.phase.epoch m apart))
 
--- the gate's epoch, where a pass with no open visit reads it
-pub glances : (slots : ℕ) (words : List ℕ) (views : List View) → Kept slots words views → (id b q : ℕ) (es : List Entry) → get_elem? views id ≡ some (passing b q 0 0 [] es) → (b ≤ slice_index words 0 / 4294967296) × AreUpTo (slice_index words 0 / 4294967296) es
-glances slots words views k id b q es here_is =
-    let is = gate_epoch (slice_index words 0) k.phase.epoch (total (here k.phase.epoch) views) k.gates.gate (k.seats.bound k.phase.epoch) in
-    let old = k.seats.fits id (passing b q 0 0 [] es) here_is in
-    let le = old.since_le in
-    ((omega (arith, is, le)), up_to-none (slice_index words 0 / 4294967296) es (λ e lt. let o = old.past e (omega (arith, is, lt)) in omega (arith, o)))
+  -- a look changes no word
+  pub glances : (next : Numbers) → length es ≤ q → Kept slots (set words 0 gate) (set views id (passing next b q 0 0 [] es))
+  glances next room =
+      let small : (gate + 0) % 18446744073709551616 ≡ gate = (let g = k.gates.gate in let t = k.seats.bound k.phase.epoch in let f = k.gates.fits in omega (arith, g, t, f)) in
+      subst (λ (w : ℕ). Kept slots (set words 0 w) (set views id (passing next b q 0 0 [] es))) small
+      (kept_at slots words views k id nums next b q 0 0 es (omega (arith, room)) here_is (when-zero k.phase.epoch 0) (λ e _. when-zero e 0))

@@ -10,7 +10,7 @@ use Rattle.pm_bank.specs.declared.view.Part.{Part}
 use Rattle.pm_bank.specs.declared.view.Taken.{Taken}
 use Rattle.pm_bank.specs.Words.{op}
 use Rattle.pm_bank.specs.Rule.{in_slots, total, gone, here, visits, lives, quota, met, aged, part, merged, Phase, Fits, Knows, Seats, Tells, Kept}
-use Rattle.pm_bank.specs.Steps.{passing, keeping}
+use Rattle.pm_bank.specs.Steps.{passing, keeping, zeros}
 use Rattle.pm_bank.proofs.FoldLemmas.{when-zero, none-here, op-unit, op-comm, op-assoc}
 use Rattle.pm_bank.proofs.MergeLemmas.{adds_one}
 use Rattle.pm_bank.proofs.CountLemmas.{spread_nil}
@@ -30,7 +30,7 @@ module _ (slots : ℕ) (words : List ℕ) (views : List View) (k : Kept slots wo
   now = keeping (record x { out = suc x.out; quotas = x.quotas + q }) es told taken
 
   abbrev fresh : View
-  fresh = passing x.epoch q 0 0 [] []
+  fresh = passing zeros x.epoch q 0 0 [] []
 
   abbrev after : List View
   after = set views id now ++ fresh ∷ []

@@ -6,6 +6,7 @@ use mathlib.Core.Logic.{dite}
 use native.Mathlib.Decide.{ℕ_discrete}
 use lib.ListN.{get_elem?}
 use Rattle.pm_bank.specs.declared.view.View.{View}
+use Rattle.pm_bank.specs.declared.view.Numbers.{Numbers}
 use Rattle.pm_bank.specs.declared.view.Part.{Part}
 use Rattle.pm_bank.specs.declared.view.Entry.{Entry}
 use Rattle.pm_bank.specs.Entries.{when}
@@ -21,7 +22,7 @@ use Rattle.pm_bank.proofs.StayLemmas.{gates_stay, merged_gains, merged_stays, wo
 use Rattle.pm_bank.proofs.PassLemmas.{IsPassStep, moves, seats_after}
 
 -- new is what the step makes of the word
-module _ (slots : ℕ) (words : List ℕ) (views : List View) (k : Kept slots words views) (id b q a : ℕ) (m : ℕ) (ps : List Part) (es : List Entry) (w s x new : ℕ) (some_hits : m ≡ 0 → ⊥) (word_is : w < 4) (inside : s < slots) (here_is : get_elem? views id ≡ some (passing b q a m ps es))
+module _ (slots : ℕ) (words : List ℕ) (views : List View) (k : Kept slots words views) (id : ℕ) (nums : Numbers) (b q a m : ℕ) (ps : List Part) (es : List Entry) (w s x new : ℕ) (some_hits : m ≡ 0 → ⊥) (word_is : w < 4) (inside : s < slots) (here_is : get_elem? views id ≡ some (passing nums b q a m ps es))
     (right : (y : ℕ) → slice_index words (cell_word a w s) ≡ close w y → new ≡ close w (op w y x)) where
   abbrev p : Phase
   p = k.phase
@@ -30,13 +31,13 @@ module _ (slots : ℕ) (words : List ℕ) (views : List View) (k : Kept slots wo
   E = k.phase.epoch
 
   abbrev was : View
-  was = passing b q a m ps es
+  was = passing nums b q a m ps es
 
   abbrev more : Part
   more = record { word = w; slot = s; amount = x }
 
   abbrev now : View
-  now = passing b q a m (more ∷ ps) es
+  now = passing nums b q a m (more ∷ ps) es
 
   abbrev after : List View
   after = set views id now

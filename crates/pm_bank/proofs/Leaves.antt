@@ -4,6 +4,7 @@ use Rattle.std.specs.Prelude.{slice_index}
 use mathlib.Core.Option.{some}
 use lib.ListN.{get_elem?}
 use Rattle.pm_bank.specs.declared.view.View.{View}
+use Rattle.pm_bank.specs.declared.view.Numbers.{Numbers}
 use Rattle.pm_bank.specs.declared.view.Hit.{Hit}
 use Rattle.pm_bank.specs.declared.view.Part.{Part}
 use Rattle.pm_bank.specs.declared.view.Entry.{Entry}
@@ -19,7 +20,7 @@ use Rattle.pm_bank.proofs.TotalLemmas.{length_set, total_le}
 use Rattle.pm_bank.proofs.StayLemmas.{cells_stay, merged_stays}
 use Rattle.pm_bank.proofs.PassLemmas.{IsPassStep, moves, seats_after}
 
-module _ (slots : ℕ) (words : List ℕ) (views : List View) (k : Kept slots words views) (id b q a : ℕ) (hs : List Hit) (ps : List Part) (es : List Entry) (some_hits : length hs ≡ 0 → ⊥) (filled : (j s : ℕ) → j < 4 → s < slots → laid j s ps ≡ run_fold j s hs) (sound : AreSound slots hs) (here_is : get_elem? views id ≡ some (passing b q a (length hs) ps es)) where
+module _ (slots : ℕ) (words : List ℕ) (views : List View) (k : Kept slots words views) (id : ℕ) (nums : Numbers) (b q a : ℕ) (hs : List Hit) (ps : List Part) (es : List Entry) (some_hits : length hs ≡ 0 → ⊥) (filled : (j s : ℕ) → j < 4 → s < slots → laid j s ps ≡ run_fold j s hs) (sound : AreSound slots hs) (here_is : get_elem? views id ≡ some (passing nums b q a (length hs) ps es)) where
   abbrev p : Phase
   p = k.phase
 
@@ -27,10 +28,10 @@ module _ (slots : ℕ) (words : List ℕ) (views : List View) (k : Kept slots wo
   E = k.phase.epoch
 
   abbrev was : View
-  was = passing b q a (length hs) ps es
+  was = passing nums b q a (length hs) ps es
 
   abbrev now : View
-  now = passing b q 0 0 [] (es ++ stamped a hs)
+  now = passing nums b q 0 0 [] (es ++ stamped a hs)
 
   abbrev after : List View
   after = set views id now

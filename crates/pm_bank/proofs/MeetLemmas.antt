@@ -44,7 +44,7 @@ module _ (id id' pid : TableId) (me mid end pass : Me (Unit {0}) View) (workers 
       let l = settles.older_less in let a = ap (λ (x : Numbers). x.late_older) numbers_are in let b = ap (λ (x : Numbers). x.older) numbers_are in let c = kept.older_is in
       let e = kept.epoch_is in let h : pass.0.lives ≡ 1 = ap (λ (v : View). v.lives) of.is in let s : pass.0.since ≡ since = ap (λ (v : View). v.since) of.is in omega (arith, l, a, b, c, e, h, s)
 
-  pub meets_told : (rest : ℕ) → rest + min 1 (epoch - since) ≡ older → Meets (keeper_view id me workers epoch out quotas older met pending) (record { bank = pid; since = since; quota = quota; entries = pass.0.entries }) (keeper_view id' end workers epoch (out - 1) (quotas - quota) rest (met + (quota - left)) pending)
+  pub meets_told : (rest : ℕ) → rest + min 1 (epoch - since) ≡ older → Meets (keeper_view id me workers epoch out quotas older met pending) (record { bank = pid; since = since; quota = quota; entries = pass.0.entries; looks = pass.0.numbers.looks; seen = pass.0.numbers.seen }) (keeper_view id' end workers epoch (out - 1) (quotas - quota) rest (met + (quota - left)) pending)
   meets_told rest rest_is =
       record {
         out_less = let o = one_out in omega (arith, o);

@@ -28,9 +28,9 @@ module _ (slots : ℕ) (words : List ℕ) (views : List View) (k : Kept slots wo
   known : Knows p views was
   known = k.seats.knows id was here_is refl
 
-  module _ (other b q : ℕ) (fs : List Entry) (few : length fs ≤ q) (apart : other ≢ id) (other_is : get_elem? views other ≡ some (passing b q 0 0 [] fs)) where
+  module _ (other : ℕ) (nums : Numbers) (b q : ℕ) (fs : List Entry) (few : length fs ≤ q) (apart : other ≢ id) (other_is : get_elem? views other ≡ some (passing nums b q 0 0 [] fs)) where
     abbrev pass : View
-    pass = passing b q 0 0 [] fs
+    pass = passing nums b q 0 0 [] fs
 
     abbrev now : View
     now = meets was pass

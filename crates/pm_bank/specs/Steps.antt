@@ -21,9 +21,9 @@ zeros = record { epoch = 0; out = 0; quotas = 0; older = 0; met = 0; late = 0; l
 abbrev pub spent : View
 spent = record { keeps = false; lives = 0; since = 0; quota = 0; arrival = 0; count = 0; parts = []; entries = []; numbers = zeros; told = []; taken = [] }
 
--- a pass that is out, hired in the epoch h, with an open visit of m events of the epoch a
-abbrev pub passing : ℕ → ℕ → ℕ → ℕ → List Part → List Entry → View
-passing h q a m ps es = record { keeps = false; lives = 1; since = h; quota = q; arrival = a; count = m; parts = ps; entries = es; numbers = zeros; told = []; taken = [] }
+-- a pass that is out, hired in the epoch h, with an open visit of m events of the epoch a; of its numbers those of its looks count
+abbrev pub passing : Numbers → ℕ → ℕ → ℕ → ℕ → List Part → List Entry → View
+passing x h q a m ps es = record { keeps = false; lives = 1; since = h; quota = q; arrival = a; count = m; parts = ps; entries = es; numbers = record zeros { looks = x.looks; seen = x.seen }; told = []; taken = [] }
 
 -- the keeper, that met the entries es
 abbrev pub keeping : Numbers → List Entry → List Part → List Taken → View
@@ -34,22 +34,25 @@ new_keeper = keeping zeros [] [] []
 
 -- arrive: m events of the gate's epoch, which is none before the pass was hired, nor before that of one of its entries
 abbrev pub arrived : ℕ → ℕ → View → View
-arrived e m v = passing v.since v.quota e m [] v.entries
+arrived e m v = passing v.numbers v.since v.quota e m [] v.entries
 
 abbrev pub Arrives : ℕ → View → ℕ → View → Type 0
 Arrives m v n w = (w ≡ arrived (n / 4294967296) m v) × (v.since ≤ n / 4294967296) × AreUpTo (n / 4294967296) v.entries
 
--- a load of the gate tells its epoch
-abbrev pub Reads : View → ℕ → View → Type 0
-Reads v n w = (w ≡ v) × (v.since ≤ n / 4294967296) × AreUpTo (n / 4294967296) v.entries
+-- a glance, a load of the gate: the pass looked once more, and saw its epoch
+abbrev pub glanced : ℕ → View → View
+glanced e v = passing (record v.numbers { looks = v.numbers.looks + 1; seen = e }) v.since v.quota 0 0 [] v.entries
+
+abbrev pub Glances : View → ℕ → View → Type 0
+Glances v n w = (w ≡ glanced (n / 4294967296) v) × (v.since ≤ n / 4294967296) × AreUpTo (n / 4294967296) v.entries
 
 -- add, raise and lower: the word k of the slot s has x of the open visit besides
 abbrev pub lays : ℕ → ℕ → ℕ → View → View
-lays k s x v = passing v.since v.quota v.arrival v.count (record { word = k; slot = s; amount = x } ∷ v.parts) v.entries
+lays k s x v = passing v.numbers v.since v.quota v.arrival v.count (record { word = k; slot = s; amount = x } ∷ v.parts) v.entries
 
 -- leave: the open visit becomes entries
 abbrev pub left : List Hit → View → View
-left hs v = passing v.since v.quota 0 0 [] (v.entries ++ stamped v.arrival hs)
+left hs v = passing v.numbers v.since v.quota 0 0 [] (v.entries ++ stamped v.arrival hs)
 
 -- flip: each pass that is out was hired in the ended epoch or earlier
 abbrev pub flipped : ℕ → View → View
@@ -85,7 +88,7 @@ abbrev pub hires : ℕ → View → View
 hires q v = keeping (record v.numbers { out = suc v.numbers.out; quotas = v.numbers.quotas + q }) v.entries v.told v.taken
 
 abbrev pub hired : ℕ → View → View
-hired q v = passing v.numbers.epoch q 0 0 [] []
+hired q v = passing zeros v.numbers.epoch q 0 0 [] []
 
 -- join: a pass is met. A join tells nothing, so the pass is counted until the next load
 abbrev pub meets : View → View → View
@@ -119,10 +122,10 @@ pub record IsSettled (x : Numbers) : Type 0 where
 
 -- a pass with no open visit, one with an open visit of an epoch, and the keeper
 abbrev pub IsIdle : View → Type 0
-IsIdle v = v ≡ passing v.since v.quota 0 0 [] v.entries
+IsIdle v = v ≡ passing v.numbers v.since v.quota 0 0 [] v.entries
 
 abbrev pub IsVisiting : View → ℕ → Type 0
-IsVisiting v e = (v ≡ passing v.since v.quota e v.count v.parts v.entries) × (0 < v.count)
+IsVisiting v e = (v ≡ passing v.numbers v.since v.quota e v.count v.parts v.entries) × (0 < v.count)
 
 abbrev pub IsKeeper : View → Type 0
 IsKeeper v = v ≡ keeping v.numbers v.entries v.told v.taken
@@ -137,13 +140,13 @@ pub record IsTaking (v : View) (ended : ℕ) : Type 0 where
 -- a pass between two calls: with no open visit, and so many events of its quota left
 pub record IsPass (me : Me (Unit {0}) View) (since quota left : ℕ) : Type 0 where
   pub plain : me.1 ≡ []
-  pub is : me.0 ≡ passing since quota 0 0 [] me.0.entries
+  pub is : me.0 ≡ passing me.0.numbers since quota 0 0 [] me.0.entries
   pub left_is : length me.0.entries + left ≡ quota
 
 -- a visit: one event arrived in an epoch
 pub record IsVisit (me : Me (Unit {0}) View) (since quota left epoch : ℕ) : Type 0 where
   pub plain : me.1 ≡ []
-  pub is : me.0 ≡ passing since quota epoch 1 [] me.0.entries
+  pub is : me.0 ≡ passing me.0.numbers since quota epoch 1 [] me.0.entries
   pub left_is : suc (length me.0.entries) + left ≡ quota
   pub hired : since ≤ epoch
   pub counted : AreUpTo epoch me.0.entries

@@ -12,12 +12,15 @@ pub record BankView : Type 0 where
   pub id : TableId
   pub slots : ℕ
 
--- a pass of a bank: the epoch at its hiring, how many events it may count, and those that it counted, in order
+-- a pass of a bank: the epoch at its hiring, how many events it may count, and those that it counted, in order; how often it
+-- looked at the open epoch without counting, and the epoch that its last look saw
 pub record PassView : Type 0 where
   pub bank : TableId
   pub since : ℕ
   pub quota : ℕ
   pub entries : List Entry
+  pub looks : ℕ
+  pub seen : ℕ
 
 -- a pass with one event that arrived in an epoch and hasn't left
 pub record VisitView : Type 0 where
@@ -51,6 +54,11 @@ pub record KeeperView : Type 0 where
 abbrev pub with_hits : PassView → ℕ → List Hit → PassView
 with_hits p e hs = record p { entries = p.entries ++ stamped e hs }
 
+-- the pass after a run in this epoch: a run without an event only looks at the epoch
+abbrev pub with_run : PassView → ℕ → List Hit → PassView
+with_run p e [] = record p { looks = p.looks + 1; seen = e }
+with_run p e (h ∷ hs) = with_hits p e (h ∷ hs)
+
 -- an arrival in this epoch comes behind all that the pass did
 pub record Follows (p : PassView) (e : ℕ) : Type 0 where
   pub hired : p.since ≤ e
@@ -65,7 +73,7 @@ abbrev pub with_pass : KeeperView → ℕ → KeeperView
 with_pass k quota = record k { out = k.out + 1; quotas = k.quotas + quota; granted = k.granted + quota }
 
 abbrev pub fresh_pass : KeeperView → ℕ → PassView
-fresh_pass k quota = record { bank = k.bank; since = k.epoch; quota = quota; entries = [] }
+fresh_pass k quota = record { bank = k.bank; since = k.epoch; quota = quota; entries = []; looks = 0; seen = 0 }
 
 -- a pass is met: its entries are the keeper's, and what is left of its quota is given back
 pub record Meets (old : KeeperView) (p : PassView) (new : KeeperView) : Type 0 where

@@ -1,7 +1,7 @@
 //! A pass, by which one thread counts events.
 ghost use Rattle.std.specs.Prelude.{◌≡◌, ◌+◌, ◌<◌, ◌≤◌, ◌↔◌, [], ◌∷◌, length, IfOk, IsErr, OnErr, MatchResult};
 ghost use Rattle.pm_bank.specs.Entries.{AreSound};
-ghost use Rattle.pm_bank.specs.Views.{Follows, with_hits};
+ghost use Rattle.pm_bank.specs.Views.{Follows, with_hits, with_run};
 
 use crate::bank::Bank;
 use crate::error::Spent;
@@ -28,7 +28,7 @@ impl Model for Pass {
 
     ghost Value = { PassView };
 
-    ghost view = { λ p. record { bank = p.seat.table_id; since = p.since; quota = p.quota; entries = p.seat.me.0.entries } };
+    ghost view = { λ p. record { bank = p.seat.table_id; since = p.since; quota = p.quota; entries = p.seat.me.0.entries; looks = p.seat.me.0.numbers.looks; seen = p.seat.me.0.numbers.seen } };
 
     ghost invariant = { λ p. IsPass p.seat.me p.since p.quota p.left };
 }
@@ -69,7 +69,7 @@ impl Pass {
         requires bank { self.old.bank ≡ bank.now.id }
         requires scratch { scratch.old ≡ bank.now.slots }
         requires sound { AreSound bank.now.slots hits.now }
-        ensures counted { IfOk result (λ epoch. (self.new ≡ with_hits self.old epoch hits.now) × Follows self.old epoch) }
+        ensures counted { IfOk result (λ epoch. (self.new ≡ with_run self.old epoch hits.now) × Follows self.old epoch) }
         ensures refused { OnErr result (self.new ≡ self.old) }
         ensures spent { IsErr result ↔ (self.old.quota < length self.old.entries + length hits.now) }
         ensures scratch { scratch.new ≡ scratch.old }

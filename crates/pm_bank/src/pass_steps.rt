@@ -1,7 +1,7 @@
 //! The atomic steps of a pass: arrive, add, raise, lower and leave.
 ghost use Rattle.std.specs.Prelude.{◌≡◌, ℕ, ◌+◌, ◌-◌, ◌*◌, ◌/◌, ◌<◌, ◌≤◌, length};
 ghost use Rattle.pm_bank.specs.Entries.{AreSound, AreUpTo};
-ghost use Rattle.pm_bank.specs.Steps.{arrived, lays, left, IsIdle, IsVisiting};
+ghost use Rattle.pm_bank.specs.Steps.{arrived, glanced, lays, left, IsIdle, IsVisiting};
 ghost use Rattle.pm_bank.specs.Run.{IsFilled};
 
 use crate::plays::{Arrive, Counters, Glance, Hits, Laid, Lay, Leave};
@@ -20,11 +20,12 @@ pub(crate) fn arrive(table: &Counters, seat: &mut Seat<(), View>, count: u32) ->
     (found / 4_294_967_296) as u32
 }
 
-/// The epoch in which an event would arrive now.
+/// The epoch in which an event would arrive now, which the pass has then seen.
 pub(crate) fn glance(table: &Counters, seat: &mut Seat<(), View>) -> u32
     requires table { (seat.old.table_id ≡ table.now.shared.table_id) × (table.now.shared.table_id.words ≡ 8 + 8 * table.now.shared.key) }
     requires idle { IsIdle seat.old.me.0 }
-    ensures seat { (seat.new.table_id ≡ seat.old.table_id) × (seat.new.me ≡ seat.old.me) }
+    requires quota { length seat.old.me.0.entries ≤ seat.old.me.0.quota }
+    ensures seat { (seat.new.table_id ≡ seat.old.table_id) × (seat.new.me ≡ (glanced result seat.old.me.0, seat.old.me.1)) }
     ensures late { (seat.old.me.0.since ≤ result) × AreUpTo result seat.old.me.0.entries }
 {
     let found = table.shared.load::<Glance>(seat, 0);

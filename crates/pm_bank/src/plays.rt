@@ -34,9 +34,9 @@ pub struct Glance;
 
 impl Play<(), View> for Glance {
     ghost use Rattle.std.specs.Prelude.{◌≡◌};
-    ghost use Rattle.pm_bank.specs.Steps.{Reads};
+    ghost use Rattle.pm_bank.specs.Steps.{Glances};
 
-    ghost then = { λ _ v n w. Reads v.0 n w.0 × (w.1 ≡ v.1) };
+    ghost then = { λ _ v n w. Glances v.0 n w.0 × (w.1 ≡ v.1) };
 }
 
 /// What is laid into a word of a slot, or found there. Each call picks it.

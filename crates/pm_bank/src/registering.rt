@@ -7,7 +7,7 @@ ghost use Rattle.pm_bank.specs.Entries.{AreSound, AreUpTo, stamped};
 ghost use Rattle.pm_bank.specs.Registering.{registered, with_registered, AreMoved, IsRegistering};
 ghost use Rattle.pm_bank.specs.Run.{AreBlank};
 ghost use Rattle.pm_bank.specs.Steps.{passing, IsIdle};
-ghost use Rattle.pm_bank.specs.Views.{with_hits, Follows};
+ghost use Rattle.pm_bank.specs.Views.{with_run, Follows};
 
 use crate::bank::Bank;
 use crate::error::Spent;
@@ -74,7 +74,7 @@ fn count_some<H: Hits>(
     requires quota { length seat.old.me.0.entries + count ≤ seat.old.me.0.quota }
     requires blank { AreBlank cells.old }
     ensures same { (seat.new.table_id ≡ seat.old.table_id) × (length cells.new ≡ length cells.old) × (length start.new ≡ length start.old) }
-    ensures seat { seat.new.me ≡ (passing seat.old.me.0.since seat.old.me.0.quota 0 0 [] (seat.old.me.0.entries ++ stamped result H.hits), seat.old.me.1) }
+    ensures seat { seat.new.me ≡ (passing seat.old.me.0.numbers seat.old.me.0.since seat.old.me.0.quota 0 0 [] (seat.old.me.0.entries ++ stamped result H.hits), seat.old.me.1) }
     ensures late { (seat.old.me.0.since ≤ result) × AreUpTo result seat.old.me.0.entries }
     ensures blank { AreBlank cells.new }
     ensures moved { AreMoved start.old hits.now start.new }
@@ -103,7 +103,7 @@ impl Pass {
         requires every { (length every.now ≡ bank.now.slots) × All (λ n. 0 < n) every.now }
         requires start { (length start.old ≡ bank.now.slots) × All (λ n. n ≤ 2 ^ 63) start.old }
         requires count { count ≡ length (registered every.now start.old hits.now) }
-        ensures counted { IfOk result (λ epoch. (self.new ≡ with_hits self.old epoch (registered every.now start.old hits.now)) × Follows self.old epoch) }
+        ensures counted { IfOk result (λ epoch. (self.new ≡ with_run self.old epoch (registered every.now start.old hits.now)) × Follows self.old epoch) }
         ensures moved { OnOk result (AreMoved start.old hits.now start.new) }
         ensures refused { OnErr result ((self.new ≡ self.old) × (start.new ≡ start.old)) }
         ensures spent { IsErr result ↔ (self.old.quota < length self.old.entries + count) }

@@ -81,7 +81,7 @@ fn lay_cells<H: Hits>(table: &Counters, seat: &mut Seat<(), View>, epoch: u32, c
     requires visit { IsVisiting seat.old.me.0 epoch × (seat.old.me.0.parts ≡ []) }
     requires folds { AreRunCells H.hits cells.old }
     ensures same { (seat.new.table_id ≡ seat.old.table_id) × (length cells.new ≡ length cells.old) }
-    ensures seat { seat.new.me ≡ (passing seat.old.me.0.since seat.old.me.0.quota epoch seat.old.me.0.count seat.new.me.0.parts seat.old.me.0.entries, seat.old.me.1) }
+    ensures seat { seat.new.me ≡ (passing seat.old.me.0.numbers seat.old.me.0.since seat.old.me.0.quota epoch seat.old.me.0.count seat.new.me.0.parts seat.old.me.0.entries, seat.old.me.1) }
     ensures filled { IsFilled (length cells.old) H.hits seat.new.me.0.parts }
     ensures blank { AreBlank cells.new }
 {
@@ -109,7 +109,7 @@ pub(crate) fn count_cells<H: Hits>(
     requires folds { AreRunCells H.hits cells.old }
     requires sound { AreSound table.now.shared.key H.hits }
     ensures same { (seat.new.table_id ≡ seat.old.table_id) × (length cells.new ≡ length cells.old) }
-    ensures seat { seat.new.me ≡ (passing seat.old.me.0.since seat.old.me.0.quota 0 0 [] (seat.old.me.0.entries ++ stamped result H.hits), seat.old.me.1) }
+    ensures seat { seat.new.me ≡ (passing seat.old.me.0.numbers seat.old.me.0.since seat.old.me.0.quota 0 0 [] (seat.old.me.0.entries ++ stamped result H.hits), seat.old.me.1) }
     ensures late { (seat.old.me.0.since ≤ result) × AreUpTo result seat.old.me.0.entries }
     ensures blank { AreBlank cells.new }
 {
@@ -134,7 +134,7 @@ pub(crate) fn count_hits<H: Hits>(
     requires blank { AreBlank cells.old }
     requires sound { AreSound table.now.shared.key hits.now }
     ensures same { (seat.new.table_id ≡ seat.old.table_id) × (length cells.new ≡ length cells.old) }
-    ensures seat { seat.new.me ≡ (passing seat.old.me.0.since seat.old.me.0.quota 0 0 [] (seat.old.me.0.entries ++ stamped result hits.now), seat.old.me.1) }
+    ensures seat { seat.new.me ≡ (passing seat.old.me.0.numbers seat.old.me.0.since seat.old.me.0.quota 0 0 [] (seat.old.me.0.entries ++ stamped result hits.now), seat.old.me.1) }
     ensures late { (seat.old.me.0.since ≤ result) × AreUpTo result seat.old.me.0.entries }
     ensures blank { AreBlank cells.new }
 {

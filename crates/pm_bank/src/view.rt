@@ -71,9 +71,9 @@ pub struct Numbers {
     pub sealed: u64,
     /// How many words of the ended epoch were cleared.
     pub cleared: u64,
-    /// How often the leaves were looked at.
+    /// How often the leaves were looked at; of a pass how often it looked at the gate without an event.
     pub looks: u64,
-    /// The count that the last look saw.
+    /// The count that the last look saw; of a pass the epoch.
     pub seen: u64,
 }
 
@@ -96,7 +96,7 @@ pub struct View {
     pub parts: LinkedList<Part>,
     /// Its entries; the keeper has those of the passes that it met.
     pub entries: LinkedList<Entry>,
-    /// The keeper's numbers.
+    /// The keeper's numbers; a pass has those of its looks.
     pub numbers: Numbers,
     /// What the keeper found in the words of the ended epoch, the newest first.
     pub told: LinkedList<Part>,

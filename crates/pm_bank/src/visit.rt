@@ -30,7 +30,7 @@ impl Model for Visit {
 
     ghost Value = { VisitView };
 
-    ghost view = { λ v. record { pass = record { bank = v.seat.table_id; since = v.since; quota = v.quota; entries = v.seat.me.0.entries }; epoch = v.epoch } };
+    ghost view = { λ v. record { pass = record { bank = v.seat.table_id; since = v.since; quota = v.quota; entries = v.seat.me.0.entries; looks = v.seat.me.0.numbers.looks; seen = v.seat.me.0.numbers.seen }; epoch = v.epoch } };
 
     ghost invariant = { λ v. IsVisit v.seat.me v.since v.quota v.left v.epoch };
 }
@@ -39,7 +39,7 @@ impl Visit {
     /// The visit of a seat at which one event arrived.
     pub(crate) fn of(seat: Seat<(), View>, since: u32, quota: u32, left: u32, epoch: u32) -> Visit
         requires { IsVisit seat.me since quota left epoch }
-        ensures pass { result.pass ≡ record { bank = seat.table_id; since = since; quota = quota; entries = seat.me.0.entries } }
+        ensures pass { result.pass ≡ record { bank = seat.table_id; since = since; quota = quota; entries = seat.me.0.entries; looks = seat.me.0.numbers.looks; seen = seat.me.0.numbers.seen } }
         ensures epoch { result.epoch ≡ epoch }
     {
         Visit {
@@ -91,11 +91,11 @@ fn finish_one<H: Hits>(
     value: u32,
 )
     requires table { (seat.old.table_id ≡ table.now.shared.table_id) × (table.now.shared.table_id.words ≡ 8 + 8 * table.now.shared.key) }
-    requires visit { seat.old.me.0 ≡ passing seat.old.me.0.since seat.old.me.0.quota epoch 1 [] seat.old.me.0.entries }
+    requires visit { seat.old.me.0 ≡ passing seat.old.me.0.numbers seat.old.me.0.since seat.old.me.0.quota epoch 1 [] seat.old.me.0.entries }
     requires slot { slot < table.now.shared.key }
     requires value { value ≤ MAX_VALUE }
     requires hits { H.hits ≡ record { slot = slot; value = value } ∷ [] }
-    ensures seat { (seat.new.table_id ≡ seat.old.table_id) × (seat.new.me ≡ (passing seat.old.me.0.since seat.old.me.0.quota 0 0 [] (seat.old.me.0.entries ++ stamped epoch (record { slot = slot; value = value } ∷ [])), seat.old.me.1)) }
+    ensures seat { (seat.new.table_id ≡ seat.old.table_id) × (seat.new.me ≡ (passing seat.old.me.0.numbers seat.old.me.0.since seat.old.me.0.quota 0 0 [] (seat.old.me.0.entries ++ stamped epoch (record { slot = slot; value = value } ∷ [])), seat.old.me.1)) }
 {
     let cell = Cell {
         n: 1,
@@ -120,7 +120,7 @@ pub(crate) fn count_one<H: Hits>(
     requires slot { slot < table.now.shared.key }
     requires value { value ≤ MAX_VALUE }
     requires hits { H.hits ≡ record { slot = slot; value = value } ∷ [] }
-    ensures seat { (seat.new.table_id ≡ seat.old.table_id) × (seat.new.me ≡ (passing seat.old.me.0.since seat.old.me.0.quota 0 0 [] (seat.old.me.0.entries ++ stamped result (record { slot = slot; value = value } ∷ [])), seat.old.me.1)) }
+    ensures seat { (seat.new.table_id ≡ seat.old.table_id) × (seat.new.me ≡ (passing seat.old.me.0.numbers seat.old.me.0.since seat.old.me.0.quota 0 0 [] (seat.old.me.0.entries ++ stamped result (record { slot = slot; value = value } ∷ [])), seat.old.me.1)) }
     ensures late { (seat.old.me.0.since ≤ result) × AreUpTo result seat.old.me.0.entries }
 {
     let epoch = arrive(table, seat, 1);

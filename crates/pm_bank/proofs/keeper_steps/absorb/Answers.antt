@@ -18,6 +18,6 @@ join_seat-requires c =
       (let w = c.requires.table.2 in omega (arith, w)),
       λ s kept at apart there.
           subst (λ (u : View). Kept slots s.words (set (set s.views c.args.seat.now.id (meets v u)) c.args.pass.id spent)) (sym c.requires.pass.1)
-          (meets_one slots s.words s.views kept c.args.seat.now.id v.numbers v.entries v.told v.taken c.requires.keeper.1 (at ∙ ap some c.requires.keeper.0) c.args.pass.id p.since p.quota p.entries c.requires.pass.2 apart
+          (meets_one slots s.words s.views kept c.args.seat.now.id v.numbers v.entries v.told v.taken c.requires.keeper.1 (at ∙ ap some c.requires.keeper.0) c.args.pass.id p.numbers p.since p.quota p.entries c.requires.pass.2 apart
           (sym (set_else s.views c.args.seat.now.id c.args.pass.id (meets v p) apart) ∙ there ∙ ap some c.requires.pass.1)),
     )

@@ -18,12 +18,12 @@ fetch_add-requires g c =
       search rules,
       (let w = c.requires.table.1 in let l = c.requires.slot.0 in let m = c.requires.slot.1 in omega (arith, w, l, m)),
       λ s kept _ at _.
-          let at' : get_elem? s.views c.args.seat.now.id ≡ some (passing v.since v.quota c.args.epoch v.count v.parts v.entries) = at ∙ ap some visit.0 in
+          let at' : get_elem? s.views c.args.seat.now.id ≡ some (passing v.numbers v.since v.quota c.args.epoch v.count v.parts v.entries) = at ∙ ap some visit.0 in
           let n : ℕ = slice_index s.words (cell_word c.args.epoch c.args.word c.args.slot) in (
-            lays c.args.word c.args.slot c.args.amount (passing v.since v.quota c.args.epoch v.count v.parts v.entries),
+            lays c.args.word c.args.slot c.args.amount (passing v.numbers v.since v.quota c.args.epoch v.count v.parts v.entries),
             keeps,
             tt,
-            lays_one slots s.words s.views kept c.args.seat.now.id v.since v.quota c.args.epoch v.count v.parts v.entries c.args.word c.args.slot c.args.amount ((n + c.args.amount) % 18446744073709551616) (λ none. omega (arith, none, some_hits)) (let l = c.requires.slot.1 in omega (arith, l)) c.requires.slot.0 at' (λ m. close-adds c.args.word n m c.args.amount c.requires.slot.1),
+            lays_one slots s.words s.views kept c.args.seat.now.id v.numbers v.since v.quota c.args.epoch v.count v.parts v.entries c.args.word c.args.slot c.args.amount ((n + c.args.amount) % 18446744073709551616) (λ none. omega (arith, none, some_hits)) (let l = c.requires.slot.1 in omega (arith, l)) c.requires.slot.0 at' (λ m. close-adds c.args.word n m c.args.amount c.requires.slot.1),
             (λ i. (lays (c.requires.laid.0 i) (c.requires.laid.1 i) (c.requires.laid.2 i) (sym visit.0 i), c.args.seat.now.me.1)),
           ),
     )

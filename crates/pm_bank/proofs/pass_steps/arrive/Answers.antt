@@ -14,12 +14,12 @@ fetch_add-found-requires c =
       search rules,
       (let w = c.requires.table.1 in omega (arith, w)),
       λ s kept _ at _.
-          let at' : get_elem? s.views c.args.seat.now.id ≡ some (passing v.since v.quota 0 0 [] v.entries) = at ∙ ap some c.requires.idle in
-          let late = arrives_late slots s.words s.views kept c.args.seat.now.id v.since v.quota c.args.count v.entries c.requires.quota at' in (
+          let at' : get_elem? s.views c.args.seat.now.id ≡ some (passing v.numbers v.since v.quota 0 0 [] v.entries) = at ∙ ap some c.requires.idle in
+          let late = arrives_late slots s.words s.views kept c.args.seat.now.id v.numbers v.since v.quota v.entries at' in (
             arrived (slice_index s.words 0 / 4294967296) c.args.count v,
             keeps,
             tt,
-            arrives slots s.words s.views kept c.args.seat.now.id v.since v.quota c.args.count v.entries c.requires.quota at',
+            arrives slots s.words s.views kept c.args.seat.now.id v.numbers v.since v.quota v.entries at' c.args.count c.requires.quota,
             ((refl, late.0, late.1), refl),
           ),
     )

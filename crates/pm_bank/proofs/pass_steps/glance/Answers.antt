@@ -1,12 +1,10 @@
-use Rattle.std.proofs.Common.{rules, arith, ◌≡◌, ℕ, List, [], refl, sym, ap, ◌∙◌, subst}
+use Rattle.std.proofs.Common.{rules, arith, ◌≡◌, ◌+◌, ◌/◌, [], refl, ap, ◌∙◌}
+use Rattle.std.specs.Prelude.{slice_index}
 use mathlib.Core.Option.{some}
 use lib.ListN.{get_elem?}
 use Rattle.atomic_table.specs.Table.Act.{keeps}
-use Rattle.pm_bank.specs.declared.view.View.{View}
-use Rattle.pm_bank.specs.Rule.{Kept}
-use Rattle.pm_bank.specs.Steps.{passing}
-use Rattle.pm_bank.proofs.Arrives.{glances}
-use Rattle.pm_bank.proofs.TotalLemmas.{set_self, set_view}
+use Rattle.pm_bank.specs.Steps.{passing, glanced}
+use Rattle.pm_bank.proofs.Arrives.{arrives_late, glances}
 use Rattle.pm_bank.proofs.pass_steps.glance.Goals as goal
 
 pub load-found-requires : goal.load-found-requires
@@ -16,12 +14,12 @@ load-found-requires c =
       search rules,
       (let w = c.requires.table.1 in omega (arith, w)),
       λ s kept _ at _.
-          let at' : get_elem? s.views c.args.seat.now.id ≡ some (passing v.since v.quota 0 0 [] v.entries) = at ∙ ap some c.requires.idle in
-          let late = glances slots s.words s.views kept c.args.seat.now.id v.since v.quota v.entries at' in (
-            v,
+          let at' : get_elem? s.views c.args.seat.now.id ≡ some (passing v.numbers v.since v.quota 0 0 [] v.entries) = at ∙ ap some c.requires.idle in
+          let late = arrives_late slots s.words s.views kept c.args.seat.now.id v.numbers v.since v.quota v.entries at' in (
+            glanced (slice_index s.words 0 / 4294967296) v,
             keeps,
             tt,
-            subst (λ (y : List ℕ × List View). Kept slots y.0 y.1) (λ i. (sym (set_self s.words 0) i, sym (set_view s.views c.args.seat.now.id v at) i)) kept,
+            glances slots s.words s.views kept c.args.seat.now.id v.numbers v.since v.quota v.entries at' (record v.numbers { looks = v.numbers.looks + 1; seen = slice_index s.words 0 / 4294967296 }) c.requires.quota,
             ((refl, late.0, late.1), refl),
           ),
     )

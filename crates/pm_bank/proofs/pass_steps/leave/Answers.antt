@@ -23,8 +23,8 @@ fetch_add-requires g c =
       search rules,
       (let w = c.requires.table.1 in omega (arith, w)),
       λ s kept _ at _.
-          let at' : get_elem? s.views c.args.seat.now.id ≡ some (passing v.since v.quota c.args.epoch (length hits) v.parts v.entries) = at ∙ ap some visit.0 ∙ ap (λ (m : ℕ). some (passing v.since v.quota c.args.epoch m v.parts v.entries)) (sym count_is ∙ length_is) in
-          let after = leaves slots s.words s.views kept c.args.seat.now.id v.since v.quota c.args.epoch hits v.parts v.entries (λ none. omega (arith, none, some_hits, count_is, length_is)) c.requires.filled c.requires.sound at' in (
+          let at' : get_elem? s.views c.args.seat.now.id ≡ some (passing v.numbers v.since v.quota c.args.epoch (length hits) v.parts v.entries) = at ∙ ap some visit.0 ∙ ap (λ (m : ℕ). some (passing v.numbers v.since v.quota c.args.epoch m v.parts v.entries)) (sym count_is ∙ length_is) in
+          let after = leaves slots s.words s.views kept c.args.seat.now.id v.numbers v.since v.quota c.args.epoch hits v.parts v.entries (λ none. omega (arith, none, some_hits, count_is, length_is)) c.requires.filled c.requires.sound at' in (
             left hits v,
             keeps,
             tt,

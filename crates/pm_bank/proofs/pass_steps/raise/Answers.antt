@@ -18,12 +18,12 @@ fetch_max-requires g c =
       search rules,
       (let w = c.requires.table.1 in let l = c.requires.slot in omega (arith, w, l)),
       λ s kept _ at _.
-          let at' : get_elem? s.views c.args.seat.now.id ≡ some (passing v.since v.quota c.args.epoch v.count v.parts v.entries) = at ∙ ap some visit.0 in
+          let at' : get_elem? s.views c.args.seat.now.id ≡ some (passing v.numbers v.since v.quota c.args.epoch v.count v.parts v.entries) = at ∙ ap some visit.0 in
           let n : ℕ = slice_index s.words (cell_word c.args.epoch 2 c.args.slot) in (
-            lays 2 c.args.slot c.args.greatest (passing v.since v.quota c.args.epoch v.count v.parts v.entries),
+            lays 2 c.args.slot c.args.greatest (passing v.numbers v.since v.quota c.args.epoch v.count v.parts v.entries),
             keeps,
             tt,
-            lays_one slots s.words s.views kept c.args.seat.now.id v.since v.quota c.args.epoch v.count v.parts v.entries 2 c.args.slot c.args.greatest (max n c.args.greatest) (λ none. omega (arith, none, some_hits)) (omega arith) c.requires.slot at' (λ m. close-raises n m c.args.greatest),
+            lays_one slots s.words s.views kept c.args.seat.now.id v.numbers v.since v.quota c.args.epoch v.count v.parts v.entries 2 c.args.slot c.args.greatest (max n c.args.greatest) (λ none. omega (arith, none, some_hits)) (omega arith) c.requires.slot at' (λ m. close-raises n m c.args.greatest),
             (λ i. (lays (c.requires.laid.0 i) (c.requires.laid.1 i) (c.requires.laid.2 i) (sym visit.0 i), c.args.seat.now.me.1)),
           ),
     )

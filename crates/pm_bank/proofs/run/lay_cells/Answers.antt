@@ -26,13 +26,13 @@ loop-s-preserved g c =
     let inside : s < length cells = omega (arith, size, lt) in
     elim c.if-cell-ne0.branch [
       | then-cell-ne0 w ↦
-          let me_is : c.if-cell-ne0.seat.me ≡ (passing v.since v.quota c.args.epoch v.count (laid_now s hs ps cells inside so_far.3 blank) v.entries, c.args.seat.now.me.1) =
+          let me_is : c.if-cell-ne0.seat.me ≡ (passing v.numbers v.since v.quota c.args.epoch v.count (laid_now s hs ps cells inside so_far.3 blank) v.entries, c.args.seat.now.me.1) =
           ap (λ (x : Seat (Unit {0}) View). x.me) w.seat-is ∙ w.lay_cell.ensures.1 ∙ ap (λ (y : Me (Unit {0}) View). (lays_cell s (get_or cells s blank) y.0, y.1)) so_far.2 in
           let parts_are = ap (λ (y : Me (Unit {0}) View). y.0.parts) me_is in
           let cells_are : c.if-cell-ne0.cells ≡ set cells s (cell_of []) = w.cells-is ∙ ap (set cells s) w.empty.ensures in (
             ap (λ (x : Seat (Unit {0}) View). x.table_id) w.seat-is ∙ w.lay_cell.ensures.0 ∙ so_far.0,
             c.if-cell-ne0.auto.cells ∙ size,
-            me_is ∙ sym (ap (λ (l : List Part). (passing v.since v.quota c.args.epoch v.count l v.entries, c.args.seat.now.me.1)) parts_are),
+            me_is ∙ sym (ap (λ (l : List Part). (passing v.numbers v.since v.quota c.args.epoch v.count l v.entries, c.args.seat.now.me.1)) parts_are),
             subst (λ (y : List Part × List Cell). IsLaidUpTo (s + 1) hs y.0 y.1) (λ i. (sym parts_are i, sym cells_are i)) (laid_one s hs ps cells inside so_far.3 blank),
           )
       | else-cell-ne0 w ↦
@@ -40,7 +40,7 @@ loop-s-preserved g c =
           let parts_are = ap (λ (y : Me (Unit {0}) View). y.0.parts) me_is in (
             ap (λ (x : Seat (Unit {0}) View). x.table_id) w.seat-is ∙ so_far.0,
             c.if-cell-ne0.auto.cells ∙ size,
-            me_is ∙ so_far.2 ∙ sym (ap (λ (l : List Part). (passing v.since v.quota c.args.epoch v.count l v.entries, c.args.seat.now.me.1)) parts_are),
+            me_is ∙ so_far.2 ∙ sym (ap (λ (l : List Part). (passing v.numbers v.since v.quota c.args.epoch v.count l v.entries, c.args.seat.now.me.1)) parts_are),
             subst (λ (y : List Part × List Cell). IsLaidUpTo (s + 1) hs y.0 y.1) (λ i. (sym parts_are i, sym w.cells-is i)) (passed_one s hs ps cells inside so_far.3 blank w.if-cell-ne0.false),
           )
     ]
