@@ -1,5 +1,6 @@
 #!/bin/sh
-# Shows that the disk over a file syncs: opening it syncs its folder, and `sync` syncs the file.
+# Shows that the disk over a file syncs: opening it syncs the file, drops the system's copy of it and syncs its folder, and `sync`
+# syncs the file.
 # It traces the test of crates/pm_disk over real files, whose program `rt test` leaves in that crate.
 # Status 1 where a sync is missing.
 test_name=tests::a_file_keeps_what_was_written_and_has_one_holder
@@ -17,7 +18,7 @@ fi
 folder=$(mktemp -d) || exit 1
 trap 'rm -rf "$folder"' EXIT
 cd "$folder" || exit 1
-if ! strace -f -y -o trace -e trace=openat,flock,ftruncate,pwrite64,pread64,fsync,close \
+if ! strace -f -y -o trace -e trace=openat,flock,ftruncate,pwrite64,pread64,fsync,fadvise64,close \
     "$tests" "$test_name" >/dev/null; then
     echo "the test failed"
     exit 1
@@ -27,7 +28,11 @@ grep -F -e "$folder" trace | grep -v -e ld.so.cache -e libc.so | sed -e 's/^[0-9
 awk -v folder="<$folder>" -v file="<$folder/pmd-first.journal" '
     function missing(what) { print "missing: " what; bad = 1 }
     / = -1 / { next }
-    /flock\(/ && index($0, file) { synced_folder = 0 }
+    /flock\(/ && index($0, file) { synced_folder = 0; dropped = 0 }
+    /fadvise64\(/ && index($0, file) && /DONTNEED/ { dropped = 1 }
+    /(ftruncate|pwrite64|pread64)\(/ && index($0, file) && !dropped {
+        missing("the drop of the copy of the file before it is used"); dropped = 1
+    }
     /fsync\(/ && index($0, folder) { synced_folder = 1; folders++ }
     /(ftruncate|pwrite64|pread64)\(/ && index($0, file) && !synced_folder {
         missing("a sync of the folder before the file is used"); synced_folder = 1

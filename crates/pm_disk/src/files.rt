@@ -5,21 +5,24 @@ ghost use Rattle.std.specs.Prelude.{◌≡◌};
 ghost use Rattle.std.specs.Result.{is_err};
 ghost use Rattle.pm_outside.specs.Causes.{faults_after};
 
+use crate::held_file::{FileFault, open_held};
 use crate::{Area, Disk};
 use pm_outside::Failed;
 use std::fs::File;
-use std::io;
-use std::os::unix::fs::{FileExt, OpenOptionsExt};
+use std::os::unix::fs::FileExt;
 use std::rt::Files;
 
 /// The file of the first area.
 pub const FIRST_FILE: &str = "pmd-first.journal";
 
 /// A disk whose first area is the file `pmd-first.journal`. Its second area is no file yet: each call on it fails. Where the
-/// file can't be opened, or another process holds it, each call on the first area fails too.
+/// file can't be opened or held, or once a sync of it failed, each call on the first area fails too.
 #[derive(Drop)]
 pub struct FileDisk {
     first: Option<File>,
+    // A sync failed.
+    lost: bool,
+    cause: Option<FileFault>,
     faults: u64,
 }
 
@@ -30,9 +33,19 @@ impl FileDisk {
     pub fn open<R: Files<File = File>>(rt: &R) -> FileDisk
         ensures { file_faults result ≡ 0 }
     {
-        FileDisk {
-            first: open_held(rt, FIRST_FILE).ok(),
-            faults: 0,
+        match open_held(rt, FIRST_FILE) {
+            Ok(file) => FileDisk {
+                first: Some(file),
+                lost: false,
+                cause: None,
+                faults: 0,
+            },
+            Err(fault) => FileDisk {
+                first: None,
+                lost: false,
+                cause: Some(fault),
+                faults: 0,
+            },
         }
     }
 
@@ -43,37 +56,38 @@ impl FileDisk {
         self.faults
     }
 
-    fn file(&self, area: Area) -> Option<&File> {
-        match area {
-            Area::First => self.first.as_ref(),
-            Area::Second => None,
+    /// Why the last call failed, or why the file was closed before it.
+    pub fn cause(&self) -> Option<&FileFault> {
+        self.cause.as_ref()
+    }
+
+    fn file(&self, area: Area) -> Result<&File, FileFault> {
+        match (area, &self.first) {
+            (Area::First, Some(file)) if !self.lost => Ok(file),
+            _ => Err(FileFault::Closed),
         }
     }
-}
 
-fn open_held<R: Files<File = File>>(rt: &R, path: &str) -> io::Result<File> {
-    let file = File::options()
-        .read(true)
-        .write(true)
-        .create(true)
-        .mode(0o600)
-        .open(rt, path)?;
-    file.try_lock()?;
-    // A file that was just made is lost at a stop until its directory is synced. A run that was stopped in between may have
-    // made it, so the directory is synced whether it was there or not.
-    File::open(rt, ".")?.sync_all()?;
-    Ok(file)
-}
+    // The value, or a counted fault.
+    fn counted<T>(&mut self, done: Result<T, FileFault>) -> Result<T, Failed>
+        ensures { file_faults self.new ≡ faults_after (is_err result) (file_faults self.old) }
+    {
+        match done {
+            Ok(value) => Ok(value),
+            Err(fault) => {
+                self.note(fault);
+                self.faults = self.faults.saturating_add(1);
+                Err(Failed)
+            }
+        }
+    }
 
-// The value, or a counted fault.
-fn counted<T>(faults: &mut u64, done: Option<T>) -> Result<T, Failed>
-    ensures { faults.new ≡ faults_after (is_err result) faults.old }
-{
-    match done {
-        Some(value) => Ok(value),
-        None => {
-            *faults = faults.saturating_add(1);
-            Err(Failed)
+    // What closed the file, or a sync that failed, stays the cause.
+    fn note(&mut self, fault: FileFault)
+        ensures { file_faults self.new ≡ file_faults self.old }
+    {
+        if self.cause.is_none() || (self.first.is_some() && !self.lost) {
+            self.cause = Some(fault);
         }
     }
 }
@@ -90,46 +104,49 @@ impl Disk for FileDisk {
     ghost reads_image = { λ disk area told. absurd told };
 
     fn len(&mut self, area: Area) -> Result<u64, Failed> {
-        let length = match self.file(area) {
-            Some(file) => length_of(file),
-            None => None,
-        };
-        counted(&mut self.faults, length)
+        let length = self.file(area).and_then(length_of);
+        self.counted(length)
     }
 
     fn read(&mut self, area: Area, at: u64, buf: &mut [u8]) -> Result<(), Failed> {
         let done = match self.file(area) {
-            Some(file) => file.read_exact_at(buf, at).ok(),
-            None => None,
+            Ok(file) => file.read_exact_at(buf, at).map_err(FileFault::System),
+            Err(fault) => Err(fault),
         };
-        counted(&mut self.faults, done)
+        self.counted(done)
     }
 
     fn write_at(&mut self, area: Area, at: u64, bytes: &[u8]) -> Result<(), Failed> {
         let done = match self.file(area) {
-            Some(file) => file.write_all_at(bytes, at).ok(),
-            None => None,
+            Ok(file) => file.write_all_at(bytes, at).map_err(FileFault::System),
+            Err(fault) => Err(fault),
         };
-        counted(&mut self.faults, done)
+        self.counted(done)
     }
 
     fn cut(&mut self, area: Area, to: u64) -> Result<(), Failed> {
         let done = match self.file(area) {
-            Some(file) => file.set_len(to).ok(),
-            None => None,
+            Ok(file) => file.set_len(to).map_err(FileFault::System),
+            Err(fault) => Err(fault),
         };
-        counted(&mut self.faults, done)
+        self.counted(done)
     }
 
+    // After a sync that failed nobody knows what the device has, and a second one would answer Ok. So no call follows it.
     fn sync(&mut self, area: Area) -> Result<(), Failed> {
         let done = match self.file(area) {
-            Some(file) => file.sync_all().ok(),
-            None => None,
+            Ok(file) => file.sync_all().map_err(FileFault::System),
+            Err(fault) => Err(fault),
         };
-        counted(&mut self.faults, done)
+        let failed = done.is_err();
+        let answer = self.counted(done);
+        if failed && area == Area::First {
+            self.lost = true;
+        }
+        answer
     }
 }
 
-fn length_of(file: &File) -> Option<u64> {
-    Some(file.metadata().ok()?.len())
+fn length_of(file: &File) -> Result<u64, FileFault> {
+    Ok(file.metadata()?.len())
 }

@@ -6,6 +6,7 @@ mod call;
 mod contents;
 mod disk;
 mod files;
+mod held_file;
 mod memory;
 mod record;
 
@@ -13,6 +14,7 @@ pub use area::Area;
 pub use call::Call;
 pub use disk::Disk;
 pub use files::{FIRST_FILE, FileDisk};
+pub use held_file::FileFault;
 pub use memory::MemDisk;
 
 #[cfg(test)]

@@ -1,6 +1,7 @@
 use super::*;
 use pm_outside::Failed;
 use std::fs;
+use std::os::unix::fs::symlink;
 use std::process::Abort;
 use std::test::Fail;
 
@@ -100,6 +101,7 @@ fn a_file_keeps_what_was_written_and_has_one_holder(rt: HostRuntime) -> Result<(
         assert_eq!(rt; other.cut(Area::First, 0), Err(Failed));
         assert_eq!(rt; other.sync(Area::First), Err(Failed));
         assert_eq!(rt; other.faults(), 5);
+        assert!(rt; matches!(other.cause(), Some(FileFault::Held)));
     }
     let mut disk = FileDisk::open(&rt);
     assert_eq!(rt; disk.len(Area::First)?, 6);
@@ -113,6 +115,14 @@ fn a_file_keeps_what_was_written_and_has_one_holder(rt: HostRuntime) -> Result<(
         "past the end"
     );
     assert_eq!(rt; disk.faults(), 1);
+    fs::remove_file(&rt, FIRST_FILE)?;
+
+    // A link is not followed, and makes no file elsewhere.
+    symlink(&rt, "elsewhere", FIRST_FILE)?;
+    let mut linked = FileDisk::open(&rt);
+    assert_eq!(rt; linked.len(Area::First), Err(Failed));
+    assert!(rt; matches!(linked.cause(), Some(FileFault::NotRegular)));
+    assert!(rt; fs::metadata(&rt, "elsewhere").is_err());
     fs::remove_file(&rt, FIRST_FILE)?;
     Ok(())
 }
