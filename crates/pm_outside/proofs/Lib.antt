@@ -1,3 +1,4 @@
 pub mod LineLemmas
 pub mod FeedLemmas
 pub mod LinesLemmas
+mod CourierLemmas

@@ -5,3 +5,6 @@ pub mod Feed
 pub mod FeedFields
 pub mod NextLine
 pub mod Memory
+pub mod Posts
+pub mod Marks
+pub mod MemoryCourier
