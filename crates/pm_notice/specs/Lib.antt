@@ -1,0 +1,3 @@
+pub mod Consumer
+pub mod Told
+pub mod Plan

@@ -1,0 +1,9 @@
+//! Subscriptions, the notices that they are posted, and the texts of notices.
+#![tactic(auto)]
+
+mod consumer;
+mod error;
+mod subscription;
+
+pub use error::SubError;
+pub use subscription::{Outcome, SubAsk, SubPlan, Subscription};
