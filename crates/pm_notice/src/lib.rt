@@ -4,6 +4,8 @@
 mod consumer;
 mod error;
 mod subscription;
+mod subscriptions;
 
 pub use error::SubError;
 pub use subscription::{Outcome, SubAsk, SubPlan, Subscription};
+pub use subscriptions::Subscriptions;

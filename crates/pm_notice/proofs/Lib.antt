@@ -1,0 +1,4 @@
+pub mod OrderLemmas
+pub mod InsertLemmas
+pub mod RemoveLemmas
+pub mod StandLemmas
