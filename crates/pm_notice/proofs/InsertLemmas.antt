@@ -39,7 +39,6 @@ not_same : {A : Type 0} (b : Bool) → b ≡ true → b ≡ false → A
 not_same true t f = cc
 not_same false t f = cc
 
-
 insert-next : (x s : Subscription) (xs : List Subscription) (k : ℕ) → insert (x ∷ xs) (1 + k) s ≡ x ∷ insert xs k s
 insert-next x s xs k = let e : 1 + k ≡ suc k = omega arith in ap (λ n. insert (x ∷ xs) n s) e
 

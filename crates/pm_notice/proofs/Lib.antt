@@ -2,3 +2,4 @@ pub mod OrderLemmas
 pub mod InsertLemmas
 pub mod RemoveLemmas
 pub mod StandLemmas
+pub mod RoundLemmas

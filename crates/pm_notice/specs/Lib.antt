@@ -5,3 +5,4 @@ pub mod StandFor
 pub mod Planned
 pub mod Asked
 pub mod Order
+pub mod Round

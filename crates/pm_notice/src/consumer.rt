@@ -27,9 +27,11 @@ pub(crate) struct ReadConsumer {
 fn has_path_alphabet(bytes: &[u8]) -> bool
     ensures { result ≡ list_all is_path_char bytes.now }
 {
-    bytes
-        .iter()
-        .all(|b| b.is_ascii_alphanumeric() || *b == b'/' || *b == b'.' || *b == b'_' || *b == b'-')
+    bytes.iter().all(|b| b.is_ascii_alphanumeric()
+        || *b == b'/'
+        || *b == b'.'
+        || *b == b'_'
+        || *b == b'-')
 }
 
 fn is_consumer_path(bytes: &[u8]) -> bool

@@ -3,9 +3,12 @@
 
 mod consumer;
 mod error;
+mod notice;
+mod rounds;
 mod subscription;
 mod subscriptions;
 
 pub use error::SubError;
+pub use notice::Notice;
 pub use subscription::{Outcome, SubAsk, SubPlan, Subscription};
 pub use subscriptions::Subscriptions;

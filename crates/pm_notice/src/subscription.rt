@@ -30,15 +30,11 @@ pub enum SubAsk<'a> {
 /// A change that no rule refuses.
 #[derive(Debug, Drop)]
 pub enum SubPlan {
-    New {
-        made: Subscription,
-    },
+    New { made: Subscription },
     /// The subscription exists as it is asked for.
     Same,
     /// The subscription at this place goes.
-    Deleted {
-        place: u8,
-    },
+    Deleted { place: u8 },
 }
 
 /// What was done.

@@ -87,9 +87,7 @@ impl Subscriptions {
     fn first_after(&self, id: &[u8]) -> Option<usize>
         ensures { result ≡ position (λ s. comes_before id.now s.id) (subscriptions_of self.now) }
     {
-        self.items
-            .iter()
-            .position(|s| is_less(id, s.id.as_bytes()))
+        self.items.iter().position(|s| is_less(id, s.id.as_bytes()))
     }
 
     // The place of the first one whose id is later, or the end.

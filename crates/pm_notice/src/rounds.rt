@@ -1,0 +1,51 @@
+//! The rounds that bring notices to subscriptions.
+ghost use Rattle.std.specs.Prelude.{◌≡◌, ◌<◌, ◌≤◌, ◌++◌, ◌&&◌, ℕ, List, length, map, filter, All, AllPairs, nat_lt};
+ghost use Rattle.pm_outside.specs.Causes.{faults_after};
+ghost use Rattle.pm_history.specs.History.{History};
+ghost use Rattle.pm_notice.specs.declared.notice.Notice.{Notice};
+ghost use Rattle.pm_notice.specs.Round.{is_due, round_posts, rounds_posts, EndsRound, AreRounds, stops, faults_after_stops, IsServable};
+ghost use Rattle.pm_notice.specs.Planned.{subscriptions_of};
+ghost use Rattle.pm_notice.specs.StandFor.{StandFor, cursors_of};
+
+use crate::{Notice, Subscription, Subscriptions};
+use pm_outside::Courier;
+
+/// The seconds after its period's end at which a notice expires.
+const EXPIRY: u64 = 86_400;
+
+fn is_due(notice: &Notice, cursor: u64, moment: u64) -> bool
+    ensures { result ≡ is_due moment cursor notice.now }
+{
+    cursor <= notice.number && (moment < EXPIRY || moment - EXPIRY < notice.end)
+}
+
+/// The round of one subscription. It answers where its cursor stands after it.
+fn serve<P: Courier>(
+    subscription: &Subscription,
+    notices: &[Notice],
+    total: u64,
+    moment: u64,
+    courier: &mut P,
+) -> u64
+    requires cursor { subscription.now.cursor ≤ total }
+    requires rising { AllPairs (λ (m n : Notice). m.number < n.number) notices.now }
+    requires numbered { All (λ (n : Notice). n.number < total) notices.now }
+    ensures ends { EndsRound notices.now total moment subscription.now result }
+    ensures posted { P.IsTold → P.posts courier.new ≡ P.posts courier.old ++ round_posts notices.now moment subscription.now result }
+    ensures counted { P.faults courier.new ≡ faults_after (nat_lt result total) (P.faults courier.old) }
+{
+    for notice in notices {
+        if is_due(notice, subscription.cursor, moment)
+            && courier
+                .post(
+                    subscription.port,
+                    subscription.path.as_bytes(),
+                    notice.body.as_bytes(),
+                )
+                .is_err()
+        {
+            return notice.number;
+        }
+    }
+    total
+}
