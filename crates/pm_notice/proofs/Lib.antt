@@ -3,3 +3,4 @@ pub mod InsertLemmas
 pub mod RemoveLemmas
 pub mod StandLemmas
 pub mod RoundLemmas
+pub mod DeliverLemmas

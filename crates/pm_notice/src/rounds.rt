@@ -49,3 +49,29 @@ fn serve<P: Courier>(
     }
     total
 }
+
+impl Subscriptions {
+    /// One round for each subscription, in byte order of id: the notices from its cursor on are posted in order, but for
+    /// those that are expired, until a post fails. `total` is how many notices there are. The notices handed in are those
+    /// from the least cursor on; one that is missing counts as expired. It takes no memory.
+    pub fn deliver<P: Courier>(
+        &mut self,
+        notices: &[Notice],
+        total: u64,
+        moment: u64,
+        courier: &mut P,
+    )
+        requires { 0 < length (subscriptions_of self.old) → IsServable (subscriptions_of self.old) notices.now total }
+        ensures rounds { AreRounds notices.now total moment (subscriptions_of self.old) (subscriptions_of self.new) }
+        ensures posted { P.IsTold → P.posts courier.new ≡ P.posts courier.old ++ rounds_posts notices.now moment (subscriptions_of self.old) (subscriptions_of self.new) }
+
+        // Each round that stopped short is one fault of the courier, and there is no other.
+        ensures counted { P.faults courier.new ≡ faults_after_stops (stops total (subscriptions_of self.new)) (P.faults courier.old) }
+        ensures stand { (h : History) (cursors : List ℕ) → StandFor (subscriptions_of self.old) h cursors → StandFor (subscriptions_of self.new) h (cursors_of (subscriptions_of self.new)) }
+    {
+        for place in 0..self.count() {
+            let end = serve(self.at(place), notices, total, moment, courier);
+            self.set_cursor(place, end);
+        }
+    }
+}
