@@ -4,3 +4,6 @@ pub mod RemoveLemmas
 pub mod StandLemmas
 pub mod RoundLemmas
 pub mod DeliverLemmas
+pub mod NoticeLemmas
+pub mod TextLemmas
+pub mod KeptLemmas

@@ -86,8 +86,11 @@ all_below : (p : Notice → Bool) (total : ℕ) (xs : List Notice) → All (λ (
     → filter (λ (n : Notice). p n && nat_lt n.number total) xs ≡ filter p xs
 all_below p total [] all = refl
 all_below p total (x ∷ xs) all =
-    rw (below x.number total (All-head (λ (n : Notice). n.number < total) x xs all), and_true (p x),
-    all_below p total xs (All-tail (λ (n : Notice). n.number < total) x xs all)) refl
+    rw (
+      below x.number total (All-head (λ (n : Notice). n.number < total) x xs all),
+      and_true (p x),
+      all_below p total xs (All-tail (λ (n : Notice). n.number < total) x xs all),
+    ) refl
 
 -- A round that doesn't stop has posted what was due.
 pub sent_all : (s : Subscription) (moment : ℕ) (notices : List Notice) (i total : ℕ) → All (λ (n : Notice). n.number < total) notices

@@ -6,3 +6,6 @@ pub mod Planned
 pub mod Asked
 pub mod Order
 pub mod Round
+pub mod Single
+pub mod NoticeForm
+pub mod NoticeContent

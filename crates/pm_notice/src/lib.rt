@@ -7,8 +7,10 @@ mod notice;
 mod rounds;
 mod subscription;
 mod subscriptions;
+mod write;
 
 pub use error::SubError;
-pub use notice::Notice;
+pub use notice::{Crossed, FileInfo, Notice};
 pub use subscription::{Outcome, SubAsk, SubPlan, Subscription};
 pub use subscriptions::Subscriptions;
+pub use write::{crossing_notice, file_notice};
