@@ -1,13 +1,13 @@
 -- Rounds for the first subscriptions, one after another.
-use Rattle.std.proofs.Common.{◌≡◌, ℕ, zero, suc, ◌+◌, ◌<◌, ◌≤◌, Bool, true, false, cond, List, [], ◌∷◌, ◌++◌, length, map, get_or, nat_lt, count_by, Option, Some, None, slice_get, All, refl, sym, ap, ◌∙◌, arith, append_assoc, append-nil}
-use Rattle.std.proofs.lemmas.List.Elements.{All-head, All-tail}
+use Rattle.std.proofs.Common.{◌≡◌, ℕ, zero, suc, ◌+◌, ◌<◌, ◌≤◌, Bool, true, false, cond, List, [], ◌∷◌, ◌++◌, length, map, get_or, nat_lt, count_by, Option, Some, None, slice_get, nat_le, ◌&&◌, refl, sym, ap, ◌∙◌, arith, append_assoc, append-nil}
+use Rattle.std.proofs.lemmas.Bool.{leb-true}
 use Rattle.std.proofs.lemmas.List.Sums.{sum_by-cons}
 use Rattle.pm_outside.specs.Causes.{faults_after}
 use Rattle.pm_outside.specs.Posts.{Post}
 use Rattle.pm_notice.specs.declared.notice.Notice.{Notice}
 use Rattle.pm_notice.specs.declared.subscription.Subscription.{Subscription}
 use Rattle.pm_notice.specs.StandFor.{with_cursor}
-use Rattle.pm_notice.specs.Round.{EndsRound, IsRound, AreRounds, round_posts, rounds_posts, is_short, stops, faults_after_stops}
+use Rattle.pm_notice.specs.Round.{EndsRound, IsRound, AreRounds, round_posts, rounds_posts, is_short, stops, faults_after_stops, are_within}
 use Rattle.pm_notice.proofs.StandLemmas.{AreSame}
 
 module _ (notices : List Notice) (total moment : ℕ) where
@@ -129,8 +129,12 @@ module _ (notices : List Notice) (total moment : ℕ) where
   rounds-same (x ∷ xs) [] rounds = absurd rounds
   rounds-same (x ∷ xs) (y ∷ ys) rounds = (rounds.0.id, rounds.0.port, rounds.0.path, rounds-same xs ys rounds.1)
 
-pub cursor-at : (total : ℕ) (xs : List Subscription) (i : ℕ) (s : Subscription) → All (λ (x : Subscription). x.cursor ≤ total) xs → slice_get xs i ≡ Some s → s.cursor ≤ total
+both : (a b : Bool) → (a && b) ≡ true → (a ≡ true) × (b ≡ true)
+both true b h = (refl, h)
+both false b h = cc
+
+pub cursor-at : (total : ℕ) (xs : List Subscription) (i : ℕ) (s : Subscription) → are_within total xs ≡ true → slice_get xs i ≡ Some s → s.cursor ≤ total
 cursor-at total [] i s all at = absurd cc
 cursor-at total (x ∷ xs) zero s all at =
-    let e : x ≡ s = cc in rw (← e) (All-head (λ (x : Subscription). x.cursor ≤ total) x xs all)
-cursor-at total (x ∷ xs) (suc i) s all at = cursor-at total xs i s (All-tail (λ (x : Subscription). x.cursor ≤ total) x xs all) at
+    let e : x ≡ s = cc in rw (← e) (leb-true x.cursor total (both (nat_le x.cursor total) (are_within total xs) all).0)
+cursor-at total (x ∷ xs) (suc i) s all at = cursor-at total xs i s (both (nat_le x.cursor total) (are_within total xs) all).1 at

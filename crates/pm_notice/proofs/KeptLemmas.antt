@@ -54,8 +54,16 @@ pub crossing_fits : (n : ℕ) (c : Crossed) → IsCrossed c → n ≤ 1844674407
     → c.value ≤ 18446744073709551615 → c.threshold ≤ 18446744073709551615 → crossing_form.fits (crossing_of n c) ≡ true
 unfolding crossing_form
 crossing_fits n c is number hysteresis value threshold =
-    rw (le-leb c.end 253402300799 is.end, le-leb c.hysteresis 18446744073709551615 hysteresis, is.monitor, le-leb n 18446744073709551615 number,
-    is.object, le-leb c.value 18446744073709551615 value, is.metric, direction-is c.up) (le-leb c.threshold 18446744073709551615 threshold)
+    rw (
+      le-leb c.end 253402300799 is.end,
+      le-leb c.hysteresis 18446744073709551615 hysteresis,
+      is.monitor,
+      le-leb n 18446744073709551615 number,
+      is.object,
+      le-leb c.value 18446744073709551615 value,
+      is.metric,
+      direction-is c.up,
+    ) (le-leb c.threshold 18446744073709551615 threshold)
 
 pub listed_kept : (names : List ℕ → Bool) → IsKept (listed_form names) 1
 unfolding listed_form
@@ -92,8 +100,12 @@ listed_fits : (names : List ℕ → Bool) (f : FileInfo) → TellsFileNames name
 unfolding listed_form
 listed_fits names f tells is size =
     let r = is.ready in
-    rw (le-leb (f.ready + 86400) 18446744073709551615 (omega (arith, r)), location-is names f.name ((tells f.name).1 is.named), le-leb f.ready 253402300799 is.ready,
-    le-leb f.size 18446744073709551615 size) (itself (f.ready + 86400))
+    rw (
+      le-leb (f.ready + 86400) 18446744073709551615 (omega (arith, r)),
+      location-is names f.name ((tells f.name).1 is.named),
+      le-leb f.ready 253402300799 is.ready,
+      le-leb f.size 18446744073709551615 size,
+    ) (itself (f.ready + 86400))
 
 -- A file that a listing may have fits.
 pub file_ready_fits : (names : List ℕ → Bool) (n : ℕ) (f : FileInfo) (element : List ℕ) → TellsFileNames names → IsFileInfo f → object_name element ≡ true

@@ -102,3 +102,13 @@ sent_all s moment notices i total all le =
 pub post_failed : {E : Type 0} (r : Result (Unit {0}) E) (old new : List Post) (p : Post) → is_err r ≡ true → Posts old new r p → new ≡ old
 post_failed (Ok u) old new p failed told = cc
 post_failed (Err e) old new p failed told = told
+
+-- One notice alone.
+pub one-rising : (x : Notice) → IsRising (x ∷ [])
+one-rising x zero zero d lt len = absurd (omega (arith, lt))
+one-rising x zero (suc j) d lt len = absurd (omega (arith, len))
+one-rising x (suc i) j d lt len = absurd (omega (arith, lt, len))
+
+pub one-numbered : (x : Notice) (total : ℕ) → x.number < total → All (λ (n : Notice). n.number < total) (x ∷ [])
+one-numbered x total lt zero d len = lt
+one-numbered x total lt (suc k) d len = absurd (omega (arith, len))

@@ -2,13 +2,14 @@
 use Rattle.std.proofs.Common.{◌≡◌, ℕ, zero, suc, ◌<◌, Bool, true, false, cond, List, [], ◌∷◌, length, map, remove, set, get_or, Option, Some, None, refl, sym, ap, ◌∙◌, arith, slice_get}
 use Rattle.std.specs.Option.{option_map}
 use Rattle.std.specs.Str.{bytes_eq}
+use Rattle.pm_history.specs.declared.entry.Entry.{Entry}
 use Rattle.pm_history.specs.declared.entry.Entry.TheVariants.{Subscribed, Unsubscribed}
 use Rattle.pm_history.specs.History.{History, ◌▷◌}
 use Rattle.pm_history.specs.Standing.{with_id, without_id}
 use Rattle.pm_items.specs.Subscribed as history
 use Rattle.pm_notice.specs.declared.subscription.Subscription.{Subscription}
 use Rattle.pm_notice.specs.Plan.{has_id, subscription_under, with_subscription}
-use Rattle.pm_notice.specs.StandFor.{StandFor, destination, ids_of, cursors_of, id_at, with_cursor}
+use Rattle.pm_notice.specs.StandFor.{StandFor, IsOfOthers, destination, ids_of, cursors_of, id_at, with_cursor}
 use Rattle.pm_notice.proofs.OrderLemmas.{IsSorted, subscribers_after-sorted}
 use Rattle.pm_notice.proofs.InsertLemmas.{ids-with, under-with}
 use Rattle.pm_notice.proofs.RemoveLemmas.{without, remove-without, ids-without, under-without}
@@ -97,3 +98,22 @@ pub set-cursor : (place cursor : ℕ) (xs : List Subscription) (s : Subscription
 set-cursor place cursor [] s lt is = absurd (omega (arith, lt))
 set-cursor zero cursor (x ∷ xs) s lt is = rw is refl
 set-cursor (suc place) cursor (x ∷ xs) s lt is = ap (λ (t : List Subscription). x ∷ t) (set-cursor place cursor xs s (omega (arith, lt)) is)
+
+-- An entry of something else changes nothing.
+others-ids : (h : History) (e : Entry) → IsOfOthers e → history.subscribers_after (h ▷ e) ≡ history.subscribers_after h
+others-ids h (Subscribed moment id port path) other = absurd other
+others-ids h (Unsubscribed moment id) other = absurd other
+others-ids h _ other = refl
+
+others-destinations : (h : History) (e : Entry) (id : List ℕ) → IsOfOthers e → history.subscribed_after (h ▷ e) id ≡ history.subscribed_after h id
+others-destinations h (Subscribed moment name port path) id other = absurd other
+others-destinations h (Unsubscribed moment name) id other = absurd other
+others-destinations h _ id other = refl
+
+pub others_stay : (subs : List Subscription) (h : History) (cursors : List ℕ) (e : Entry) → IsOfOthers e → StandFor subs h cursors → StandFor subs (h ▷ e) cursors
+others_stay subs h cursors e other stand =
+    record {
+      ids = stand.ids ∙ sym (others-ids h e other);
+      destinations = λ id. stand.destinations id ∙ sym (others-destinations h e id other);
+      served = stand.served;
+    }

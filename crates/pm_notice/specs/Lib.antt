@@ -9,3 +9,4 @@ pub mod Round
 pub mod Single
 pub mod NoticeForm
 pub mod NoticeContent
+pub mod Laws

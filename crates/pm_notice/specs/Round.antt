@@ -1,5 +1,6 @@
 -- The round of a subscription: which notices are posted, and where its cursor stands after it (this project's own).
 use Rattle.std.specs.Prelude.{ℕ, zero, suc, ◌≡◌, ◌<◌, ◌≤◌, ◌+◌, ◌++◌, ◌&&◌, Bool, true, false, not, List, [], ◌∷◌, length, map, filter, count_by, nat_le, nat_lt, All, AllPairs, Any}
+use Rattle.std.specs.List.{list_all}
 use Rattle.pm_outside.specs.Causes.{faults_after}
 use Rattle.pm_outside.specs.Posts.{Post}
 use Rattle.pm_notice.specs.declared.subscription.Subscription.{Subscription}
@@ -59,8 +60,12 @@ abbrev pub faults_after_stops : ℕ → ℕ → ℕ
 faults_after_stops zero faults = faults
 faults_after_stops (suc n) faults = faults_after true (faults_after_stops n faults)
 
+-- Whether no cursor is past the number of notices.
+abbrev pub are_within : ℕ → List Subscription → Bool
+are_within total subs = list_all (λ s. nat_le s.cursor total) subs
+
 -- Notices for rounds: their numbers rise and are below the number of notices, and no cursor is past it.
 pub record IsServable (subs : List Subscription) (notices : List Notice) (total : ℕ) : Type 0 where
   pub rising : AllPairs (λ (m n : Notice). m.number < n.number) notices
   pub numbered : All (λ (n : Notice). n.number < total) notices
-  pub cursors : All (λ (s : Subscription). s.cursor ≤ total) subs
+  pub cursors : are_within total subs ≡ true

@@ -3,7 +3,7 @@ ghost use Rattle.std.specs.Prelude.{◌≡◌, ◌<◌, ◌≤◌, ◌++◌, ◌
 ghost use Rattle.pm_outside.specs.Causes.{faults_after};
 ghost use Rattle.pm_history.specs.History.{History};
 ghost use Rattle.pm_notice.specs.declared.notice.Notice.{Notice};
-ghost use Rattle.pm_notice.specs.Round.{is_due, round_posts, rounds_posts, EndsRound, AreRounds, stops, faults_after_stops, IsServable};
+ghost use Rattle.pm_notice.specs.Round.{is_due, round_posts, rounds_posts, EndsRound, AreRounds, stops, faults_after_stops, are_within, IsServable};
 ghost use Rattle.pm_notice.specs.Planned.{subscriptions_of};
 ghost use Rattle.pm_notice.specs.StandFor.{StandFor, cursors_of};
 
@@ -51,6 +51,13 @@ fn serve<P: Courier>(
 }
 
 impl Subscriptions {
+    /// Whether no cursor is past this number of notices.
+    pub fn are_within(&self, total: u64) -> bool
+        ensures { result ≡ are_within total (subscriptions_of self.now) }
+    {
+        self.items.iter().all(|s| s.cursor <= total)
+    }
+
     /// One round for each subscription, in byte order of id: the notices from its cursor on are posted in order, but for
     /// those that are expired, until a post fails. `total` is how many notices there are. The notices handed in are those
     /// from the least cursor on; one that is missing counts as expired. It takes no memory.
