@@ -1,5 +1,5 @@
 -- A subscription that is put at its place.
-use Rattle.std.proofs.Common.{◌≡◌, ℕ, zero, suc, ◌+◌, ◌≤◌, Bool, true, false, not, cond, List, [], ◌∷◌, ◌++◌, length, map, find, position, insert, take, drop, nat_lt, Option, Some, None, unwrap_or, option_map, refl, sym, ap, ◌∙◌, arith}
+use Rattle.std.proofs.Common.{◌≡◌, ℕ, suc, ◌+◌, ◌≤◌, Bool, true, false, not, cond, List, [], ◌∷◌, length, position, insert, nat_lt, Some, None, unwrap_or, refl, sym, ap, ◌∙◌, arith}
 use Rattle.std.specs.List.{prefix_len}
 use Rattle.std.specs.Str.{bytes_eq}
 use Rattle.std.specs.Ordering.{nat_cmp, match_ordering}
@@ -11,7 +11,7 @@ use Rattle.std.proofs.lemmas.Bool.Decides.{nat_tests}
 use Rattle.pm_history.specs.Standing.{with_id}
 use Rattle.pm_notice.specs.declared.subscription.Subscription.{Subscription}
 use Rattle.pm_notice.specs.Order.{comes_before}
-use Rattle.pm_notice.specs.Plan.{has_id, subscription_under, with_subscription}
+use Rattle.pm_notice.specs.Plan.{subscription_under, with_subscription}
 use Rattle.pm_notice.specs.StandFor.{ids_of}
 use Rattle.pm_notice.proofs.OrderLemmas.{equal-same}
 

@@ -1,5 +1,5 @@
 -- The compact text of a notice's tree reads back as the notice.
-use Rattle.std.proofs.Common.{rules, ◌≡◌, ℕ, suc, ◌+◌, ◌++◌, codes, nat_eq, ◌≤◌, ◌&&◌, Bool, true, false, List, refl, ap, ◌∙◌, arith, lit≤, le-leb, Ok}
+use Rattle.std.proofs.Common.{rules, ◌≡◌, ℕ, ◌+◌, ◌++◌, codes, nat_eq, ◌≤◌, ◌&&◌, Bool, true, false, List, refl, ap, ◌∙◌, arith, le-leb, Ok}
 use Rattle.std.specs.Str.{IsUtf8}
 use Rattle.json.specs.Lex.{tokens}
 use Rattle.json.specs.Print.{print}
@@ -7,13 +7,12 @@ use Rattle.json.specs.Tree.{json_tokens}
 use Rattle.serde_json.specs.Data.{Data}
 use Rattle.serde_json.specs.Read.{read}
 use Rattle.serde_json.specs.Written.{outline, compact_text}
-use Rattle.pm_form.specs.Form.{Form, Read, then_read, text_says, IsExact, mapped}
+use Rattle.pm_form.specs.Form.{Form, Read, then_read, text_says, IsExact}
 use Rattle.pm_form.specs.Names.{job_id, measure_name}
 use Rattle.pm_form.proofs.ReadLemmas.{json_of_read}
 use Rattle.pm_form.proofs.KeptLemmas.{IsKept, whole_kept, compact_back}
 use Rattle.pm_file.specs.ReportForm.{object_name, moment}
-use Rattle.pm_notice.specs.Single.{single}
-use Rattle.pm_notice.specs.NoticeForm.{TellsFileNames, Listed, number, file_location, expires_in_a_day, listed_form, file_ready_form, direction_text, is_direction, crossing_form}
+use Rattle.pm_notice.specs.NoticeForm.{TellsFileNames, number, file_location, expires_in_a_day, listed_form, file_ready_form, direction_text, is_direction, crossing_form}
 use Rattle.pm_notice.specs.NoticeContent.{listed_of, file_ready_of, crossing_of, IsFileInfo, IsCrossed}
 use Rattle.pm_notice.specs.declared.notice.FileInfo.{FileInfo}
 use Rattle.pm_notice.specs.declared.notice.Crossed.{Crossed}

@@ -1,14 +1,14 @@
 -- A tree says a notice exactly where it is the notice's tree and the notice fits.
-use Rattle.std.proofs.Common.{◌≡◌, ℕ, Bool, true, false, List, [], ◌∷◌, refl, ap, codes, Ok, Err}
-use Rattle.serde_json.specs.Data.{Data, null, boolean, number as number_data, string, array, object, Items, no_items, item}
+use Rattle.std.proofs.Common.{◌≡◌, ℕ, Bool, true, List, refl, ap, codes, Ok}
+use Rattle.serde_json.specs.Data.{Data, null, boolean, number as number_data, string, array, object, no_items, item}
 use Rattle.pm_form.specs.Form.{Form, IsExact}
-use Rattle.pm_form.specs.Values.{text, fixed, whole}
+use Rattle.pm_form.specs.Values.{text, fixed}
 use Rattle.pm_form.specs.Names.{job_id, measure_name}
 use Rattle.pm_form.specs.declared.refusal.Refusal.TheVariants.{Disagrees}
 use Rattle.pm_form.proofs.FormLemmas.{text_exact, fixed_exact, whole_exact, list_exact, last_exact, field_exact, object_exact, tested_exact, mapped_exact}
 use Rattle.pm_file.specs.ReportForm.{object_name, moment}
 use Rattle.pm_notice.specs.Single.{single}
-use Rattle.pm_notice.specs.NoticeForm.{file_location, number, expires_in_a_day, listed_form, file_ready_form, is_direction, crossing_form, are_distinct, listing_form}
+use Rattle.pm_notice.specs.NoticeForm.{file_location, number, expires_in_a_day, listed_form, file_ready_form, is_direction, crossing_form, listing_form}
 
 pub single_exact : {A : Type 0} (form : Form A) → IsExact form → IsExact (single form)
 single_exact form exact = record { back = λ a fits. exact.back a fits; only = only }

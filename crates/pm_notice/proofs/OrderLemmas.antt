@@ -11,7 +11,7 @@ use Rattle.std.proofs.lemmas.Map.Text.{is_eq-slice_cmp}
 use Rattle.pm_history.specs.declared.entry.Entry.{Entry}
 use Rattle.pm_history.specs.declared.entry.Entry.TheVariants.{Subscribed, Unsubscribed}
 use Rattle.pm_history.specs.History.{History, Start, ◌▷◌}
-use Rattle.pm_history.specs.Standing.{with_id, without_id}
+use Rattle.pm_history.specs.Standing.{with_id}
 use Rattle.pm_items.specs.Subscribed.{subscribers_next, subscribers_after}
 
 abbrev pub IsBefore : List ℕ → List ℕ → Type 0

@@ -1,11 +1,11 @@
 -- A subscription that is taken out of its place.
-use Rattle.std.proofs.Common.{rules, ◌≡◌, ℕ, zero, suc, ◌<◌, Bool, true, false, not, cond, List, [], ◌∷◌, ◌++◌, length, map, find, filter, remove, Option, Some, None, refl, sym, ap, ◌∙◌, arith, slice_get}
+use Rattle.std.proofs.Common.{rules, ◌≡◌, ℕ, zero, suc, ◌<◌, Bool, true, false, not, cond, List, [], ◌∷◌, length, filter, remove, Option, Some, None, refl, sym, ap, ◌∙◌, arith}
 use Rattle.std.specs.List.{AllByRecursion}
 use Rattle.std.specs.Str.{bytes_eq}
 use Rattle.std.specs.Cmp.Lexicographic.{same_text}
 use Rattle.pm_history.specs.Standing.{without_id}
 use Rattle.pm_notice.specs.declared.subscription.Subscription.{Subscription}
-use Rattle.pm_notice.specs.Plan.{has_id, subscription_under}
+use Rattle.pm_notice.specs.Plan.{subscription_under}
 use Rattle.pm_notice.specs.StandFor.{ids_of, id_at}
 use Rattle.pm_notice.proofs.OrderLemmas.{IsBefore, IsSorted, before-other, before-turned}
 

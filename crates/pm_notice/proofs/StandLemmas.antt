@@ -1,5 +1,5 @@
 -- Subscriptions that stand for a history, one step on.
-use Rattle.std.proofs.Common.{◌≡◌, ℕ, zero, suc, ◌<◌, Bool, true, false, cond, List, [], ◌∷◌, length, map, remove, set, get_or, Option, Some, None, refl, sym, ap, ◌∙◌, arith, slice_get}
+use Rattle.std.proofs.Common.{◌≡◌, ℕ, zero, suc, ◌<◌, Bool, true, false, cond, List, [], ◌∷◌, length, remove, set, get_or, Some, None, refl, sym, ap, ◌∙◌, arith}
 use Rattle.std.specs.Option.{option_map}
 use Rattle.std.specs.Str.{bytes_eq}
 use Rattle.pm_history.specs.declared.entry.Entry.{Entry}
@@ -8,11 +8,11 @@ use Rattle.pm_history.specs.History.{History, ◌▷◌}
 use Rattle.pm_history.specs.Standing.{with_id, without_id}
 use Rattle.pm_items.specs.Subscribed as history
 use Rattle.pm_notice.specs.declared.subscription.Subscription.{Subscription}
-use Rattle.pm_notice.specs.Plan.{has_id, subscription_under, with_subscription}
+use Rattle.pm_notice.specs.Plan.{subscription_under, with_subscription}
 use Rattle.pm_notice.specs.StandFor.{StandFor, IsOfOthers, destination, ids_of, cursors_of, id_at, with_cursor}
 use Rattle.pm_notice.proofs.OrderLemmas.{IsSorted, subscribers_after-sorted}
 use Rattle.pm_notice.proofs.InsertLemmas.{ids-with, under-with}
-use Rattle.pm_notice.proofs.RemoveLemmas.{without, remove-without, ids-without, under-without}
+use Rattle.pm_notice.proofs.RemoveLemmas.{remove-without, ids-without, under-without}
 
 sorted : (xs : List Subscription) (h : History) (cs : List ℕ) → StandFor xs h cs → IsSorted (ids_of xs)
 sorted xs h cs stand = rw stand.ids (subscribers_after-sorted h)

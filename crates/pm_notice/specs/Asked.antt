@@ -1,5 +1,5 @@
 -- What is asked, and what is planned for it.
-use Rattle.std.specs.Prelude.{ℕ, ◌≡◌, true, List, Result}
+use Rattle.std.specs.Prelude.{◌≡◌, true, List, Result}
 use Rattle.pm_form.specs.Names.{job_id}
 use Rattle.pm_notice.specs.declared.subscription.Subscription.{Subscription}
 use Rattle.pm_notice.specs.declared.subscription.SubAsk.{SubAsk}

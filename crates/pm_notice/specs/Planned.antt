@@ -1,5 +1,5 @@
 -- Which plans fit subscriptions.
-use Rattle.std.specs.Prelude.{ℕ, ◌≡◌, ◌<◌, List, length, vec_capacity, Option, None, Some, Result, Ok, Err}
+use Rattle.std.specs.Prelude.{◌≡◌, ◌<◌, List, length, vec_capacity, None, Result, Ok, Err}
 use Rattle.pm_notice.specs.declared.subscription.Subscription.{Subscription}
 use Rattle.pm_notice.specs.declared.subscription.SubPlan.{SubPlan}
 use Rattle.pm_notice.specs.declared.subscription.SubPlan.TheVariants.{New, Same, Deleted}

@@ -1,5 +1,5 @@
 -- The round of a subscription: which notices are posted, and where its cursor stands after it (this project's own).
-use Rattle.std.specs.Prelude.{ℕ, zero, suc, ◌≡◌, ◌<◌, ◌≤◌, ◌+◌, ◌++◌, ◌&&◌, Bool, true, false, not, List, [], ◌∷◌, length, map, filter, count_by, nat_le, nat_lt, All, AllPairs, Any}
+use Rattle.std.specs.Prelude.{ℕ, zero, suc, ◌≡◌, ◌<◌, ◌≤◌, ◌+◌, ◌++◌, ◌&&◌, Bool, true, not, List, [], ◌∷◌, map, filter, count_by, nat_le, nat_lt, All, AllPairs, Any}
 use Rattle.std.specs.List.{list_all}
 use Rattle.pm_outside.specs.Causes.{faults_after}
 use Rattle.pm_outside.specs.Posts.{Post}

@@ -1,5 +1,5 @@
 -- The form of an array of exactly one item.
-use Rattle.std.specs.Prelude.{List, [], ◌∷◌, Ok, Err}
+use Rattle.std.specs.Prelude.{List, [], ◌∷◌, Err}
 use Rattle.serde_json.specs.Data.{Data, array, no_items, item}
 use Rattle.pm_form.specs.Form.{Read, then_read, Form}
 use Rattle.pm_form.specs.Lists.{items_at}

@@ -1,5 +1,5 @@
 -- Subscriptions stand for a history: who is subscribed, where notices go, and the cursors, which are no part of a history.
-use Rattle.std.specs.Prelude.{ℕ, zero, suc, ◌≡◌, ◌∷◌, List, map, [], Option, slice_get, unwrap_or}
+use Rattle.std.specs.Prelude.{ℕ, zero, suc, ◌≡◌, ◌∷◌, List, map, [], slice_get, unwrap_or}
 use Rattle.std.specs.Option.{option_map}
 use Rattle.pm_history.specs.declared.entry.Entry.{Entry}
 use Rattle.pm_history.specs.declared.entry.Entry.TheVariants.{Subscribed, Unsubscribed}

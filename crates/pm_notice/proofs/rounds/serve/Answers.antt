@@ -1,4 +1,4 @@
-use Rattle.std.proofs.Common.{rules, ◌≡◌, ◌++◌, ◌<◌, ◌≤◌, length, sym, ap, ◌∙◌, arith}
+use Rattle.std.proofs.Common.{◌++◌, ◌≤◌, length, sym, ap, ◌∙◌, arith}
 use Rattle.pm_notice.specs.declared.notice.Notice.{Notice}
 use Rattle.pm_notice.specs.Round.{round_posts}
 use Rattle.pm_notice.proofs.RoundLemmas.{sent_stop, sent_all, post_failed}

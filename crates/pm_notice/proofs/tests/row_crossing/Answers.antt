@@ -1,4 +1,4 @@
-use Rattle.std.proofs.Common.{rules, ◌≡◌, true, codes, refl, arith, lit≤}
+use Rattle.std.proofs.Common.{◌≡◌, true, codes, refl, lit≤}
 use Rattle.pm_form.specs.Names.{job_id, measure_name}
 use Rattle.pm_file.specs.ReportForm.{object_name}
 use Rattle.pm_notice.proofs.tests.row_crossing.Goals as goal

@@ -1,4 +1,4 @@
-use Rattle.std.proofs.Common.{rules, ◌≡◌, ◌∷◌, ◌++◌, [], true, codes, decimal, sym, ap, ◌∙◌}
+use Rattle.std.proofs.Common.{rules, ◌∷◌, [], codes, decimal}
 use Rattle.json.specs.Token.{begin_object, end_object, key, number, string}
 use Rattle.pm_form.proofs.WriteLemmas.{more, on_ok}
 use Rattle.pm_file.proofs.Utf8Lemmas.{job_id-utf8, measure_name-utf8, object_name-utf8}

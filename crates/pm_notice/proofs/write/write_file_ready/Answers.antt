@@ -1,4 +1,4 @@
-use Rattle.std.proofs.Common.{rules, ◌∷◌, [], codes, decimal, ◌∙◌}
+use Rattle.std.proofs.Common.{rules, ◌∷◌, [], codes, decimal}
 use Rattle.json.specs.Token.{begin_object, end_object, key, number, string}
 use Rattle.json.specs.Tree.{json_tokens}
 use Rattle.serde_json.specs.Written.{outline}

@@ -1,7 +1,7 @@
-use Rattle.std.proofs.Common.{rules, ◌≡◌, ◌∷◌, ◌++◌, ◌+◌, [], true, codes, decimal, sym, ap, ◌∙◌, arith}
+use Rattle.std.proofs.Common.{rules, ◌∷◌, ◌++◌, ◌+◌, [], codes, decimal, arith}
 use Rattle.json.specs.Token.{begin_object, end_object, key, number, string}
 use Rattle.pm_form.proofs.WriteLemmas.{more, on_ok}
-use Rattle.pm_notice.specs.NoticeForm.{any_text, listed_form}
+use Rattle.pm_notice.specs.NoticeForm.{listed_form}
 use Rattle.pm_notice.proofs.TextLemmas.{location-utf8}
 use Rattle.pm_notice.proofs.write.write_listed.Goals as goal
 

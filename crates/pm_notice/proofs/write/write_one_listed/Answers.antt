@@ -1,4 +1,4 @@
-use Rattle.std.proofs.Common.{rules, ◌∷◌, [], ◌∙◌}
+use Rattle.std.proofs.Common.{rules, ◌∷◌, []}
 use Rattle.json.specs.Token.{begin_array, end_array}
 use Rattle.json.specs.Tree.{json_tokens}
 use Rattle.serde_json.specs.Written.{outline}

@@ -1,10 +1,9 @@
-use Rattle.std.proofs.Common.{rules, ◌≡◌, ◌<◌, ◌≤◌, ◌+◌, ◌++◌, suc, length, nat_lt, refl, sym, ap, ◌∙◌, arith, add-one, append_assoc}
+use Rattle.std.proofs.Common.{◌≡◌, ◌<◌, ◌++◌, length, nat_lt, sym, ap, ◌∙◌, arith, add-one, append_assoc}
 use Rattle.pm_outside.specs.Causes.{faults_after}
 use Rattle.pm_notice.specs.Round.{faults_after_stops, round_posts}
-use Rattle.pm_notice.specs.StandFor.{with_cursor}
 use Rattle.pm_notice.specs.Planned.{subscriptions_of}
 use Rattle.pm_notice.proofs.StandLemmas.{stand-same}
-use Rattle.pm_notice.proofs.DeliverLemmas.{ServedTo, posts_to, stops_to, served-length, served-le, served-next, served-more, posts-more, stops-more, served-all, posts-all, stops-all, rounds-same, cursor-at}
+use Rattle.pm_notice.proofs.DeliverLemmas.{posts_to, served-length, served-le, served-next, served-more, posts-more, stops-more, served-all, posts-all, stops-all, rounds-same, cursor-at}
 use Rattle.pm_notice.proofs.subscriptions.Subscriptions.deliver.Goals as goal
 
 pub at-requires : goal.at-requires

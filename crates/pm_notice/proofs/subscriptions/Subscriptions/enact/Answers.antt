@@ -1,4 +1,3 @@
-use Rattle.std.proofs.Common.{rules, sym, ap, subst, ◌∙◌}
 use Rattle.pm_notice.proofs.StandLemmas.{stand-with, stand-without}
 use Rattle.pm_notice.proofs.subscriptions.Subscriptions.enact.Goals as goal
 

@@ -1,4 +1,4 @@
-use Rattle.std.proofs.Common.{rules, sym, ◌∙◌}
+use Rattle.std.proofs.Common.{◌∙◌}
 use Rattle.pm_notice.proofs.InsertLemmas.{insert-with}
 use Rattle.pm_notice.proofs.subscriptions.Subscriptions.insert.Goals as goal
 

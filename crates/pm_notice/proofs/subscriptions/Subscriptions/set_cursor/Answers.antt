@@ -1,4 +1,3 @@
-use Rattle.std.proofs.Common.{rules, sym, ap, subst, ◌∙◌}
 use Rattle.pm_notice.proofs.StandLemmas.{stand-same, set-cursor, with_cursor-same}
 use Rattle.pm_notice.proofs.subscriptions.Subscriptions.set_cursor.Goals as goal
 
