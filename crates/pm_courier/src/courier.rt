@@ -8,6 +8,7 @@ use std::net::{IpAddr, Ipv4Addr, Net, OpenStream, SocketAddr, TcpStream};
 use std::time::{Clock, Duration, Instant};
 
 /// A courier that gives a consumer so long to take the connection, and so long in all to answer.
+#[derive(Drop)]
 pub struct HttpCourier<'r, R: Net + Clock> {
     rt: &'r R,
     connect: Duration,
