@@ -1,0 +1,9 @@
+pub mod OrderLemmas
+pub mod InsertLemmas
+pub mod RemoveLemmas
+pub mod StandLemmas
+pub mod RoundLemmas
+pub mod DeliverLemmas
+pub mod NoticeLemmas
+pub mod TextLemmas
+pub mod KeptLemmas

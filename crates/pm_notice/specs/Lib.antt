@@ -1,0 +1,12 @@
+pub mod Consumer
+pub mod Told
+pub mod Plan
+pub mod StandFor
+pub mod Planned
+pub mod Asked
+pub mod Order
+pub mod Round
+pub mod Single
+pub mod NoticeForm
+pub mod NoticeContent
+pub mod Laws

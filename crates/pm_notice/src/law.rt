@@ -1,0 +1,13 @@
+//! What holds of all subscriptions and notices.
+ghost use Rattle.pm_notice.specs.Laws.{AreExact};
+ghost use Rattle.pm_notice.specs.StandFor.{OthersStay};
+
+/// A tree says a notice or a listing exactly where it is the tree of what it says. A law: the call does nothing.
+pub fn notices_are_exact()
+    ensures { AreExact }
+{}
+
+/// Subscriptions stand on for a history whose next entry is of something else. A law: the call does nothing.
+pub fn others_stay()
+    ensures { OthersStay }
+{}
