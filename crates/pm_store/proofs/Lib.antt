@@ -1,0 +1,4 @@
+pub mod RowLemmas
+pub mod FormatLemmas
+pub mod RowExactLemmas
+pub mod ItemLemmas
