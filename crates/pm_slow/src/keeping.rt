@@ -1,17 +1,13 @@
 //! The items of a history, and what is kept of it.
-ghost use Rattle.std.specs.Prelude.{◌≡◌, ◌≤◌, ◌<◌, ◌^◌, ◌++◌, [], map, length, if◌then◌else◌, IfOk, OnOk, option_to_list};
+ghost use Rattle.std.specs.Prelude.{◌≡◌, ◌++◌, map, IfOk, OnOk, option_to_list};
 ghost use Rattle.std.specs.Option.{option_map};
 ghost use Rattle.pm_history.specs.History.{history_of};
-ghost use Rattle.pm_history.specs.Value.{value_where};
-ghost use Rattle.pm_items.specs.Items.{is_later, ends_tick, item_of, items_of, kept, open_values, open_cells};
+ghost use Rattle.pm_items.specs.Items.{is_later, item_of, items_of, kept};
 ghost use Rattle.pm_slow.specs.Items.{item_seen};
 
 use crate::history::{last_moment, pick};
-use crate::value::{add, value_in};
 use pm_base::tick;
 use pm_history::Entry;
-use pm_meas::Cell;
-use pm_meas::plain::fold_of;
 use std::alloc::{AllocError, Global};
 
 /// An item: a Boot; a Now in a later tick, with the tick that it takes and the entries before it, whose cells it has; or a change.
@@ -30,7 +26,7 @@ pub enum Item<'a> {
     },
 }
 
-fn is_later(before: &[Entry], moment: u64) -> bool
+pub(crate) fn is_later(before: &[Entry], moment: u64) -> bool
     ensures { result ≡ is_later (history_of before.now) moment }
 {
     match before {
