@@ -5,13 +5,12 @@ use Rattle.std.specs.Option.{option_map}
 use Rattle.std.proofs.lemmas.Bool.{eqb-true, leb-true, le-leb}
 use Rattle.std.proofs.lemmas.Option.{same_Some}
 use Rattle.pm_base.specs.declared.moment.TheConstants.{LAST_MOMENT}
-use Rattle.pm_meas.specs.declared.cell.Cell.{Cell}
 use Rattle.pm_store.specs.declared.error.StoreError.{StoreError}
 use Rattle.pm_store.specs.declared.error.StoreError.TheVariants.{Bad, Memory}
 use Rattle.pm_store.specs.declared.item.Item1.{Item1}
 use Rattle.pm_store.specs.declared.item.Item1.TheVariants.{Boot, Booked, JobMade, JobState, JobDeleted, MonitorMade, MonitorState, MonitorDeleted, Subscribed, Unsubscribed}
 use Rattle.pm_store.specs.declared.item.TheConstants.{VERSION}
-use Rattle.pm_store.specs.Format.{Format, ◌>>=◌, byte, number16, number64, flag, short, long, both, tested, whole}
+use Rattle.pm_store.specs.Format.{Format, byte, number16, number64, flag, short, long, both, tested, whole}
 use Rattle.pm_store.specs.Rows.{listed, cell_row, cursor_row, are_rising}
 use Rattle.pm_store.specs.Item.{moment_of, kind_of, head, opened, cells_listed, cursors_listed, booked, made, moved, subscribed, field_bytes, item_bytes, FieldsFit, IsItem}
 use Rattle.pm_store.specs.Reading.{item_of_kind, item_at, Answers}

@@ -1,14 +1,12 @@
 -- Rows are exact, and so are lists of them.
-use Rattle.std.proofs.Common.{◌≡◌, ℕ, zero, suc, ◌+◌, ◌*◌, ◌^◌, ◌<◌, ◌≤◌, Bool, true, false, cond, ltb, List, [], ◌∷◌, ◌++◌, length, map, take, drop, Option, Some, None, refl, sym, ap, subst, ◌∙◌, append_assoc, take-add, zero-mul, arith}
+use Rattle.std.proofs.Common.{◌≡◌, ℕ, zero, suc, ◌+◌, ◌*◌, ◌^◌, ◌<◌, ◌≤◌, false, cond, ltb, List, [], ◌∷◌, ◌++◌, length, take, drop, Some, None, refl, sym, ap, subst, ◌∙◌, append_assoc, take-add, zero-mul, arith}
 use Rattle.std.specs.Int.{w16, w32, w64, from_be_bytes, to_be_bytes}
 use Rattle.std.specs.List.{flat_map, AllByRecursion}
-use Rattle.std.specs.Simd.{first_chunks}
 use Rattle.std.proofs.lemmas.Bool.{ltb-false, le-ltb}
-use Rattle.std.proofs.lemmas.Option.{same_Some}
 use Rattle.std.proofs.lemmas.List.{take_at, drop_at, take-append-drop, length-append, length-take, length-drop, drop-drop}
 use Rattle.std.proofs.lemmas.Nat.{be_bytes_2, be_bytes_4, be_bytes_8, from_be_bytes-to_be_bytes_2, from_be_bytes-to_be_bytes_4, from_be_bytes-to_be_bytes_8}
 use Rattle.pm_meas.specs.declared.cell.Cell.{Cell}
-use Rattle.pm_store.specs.Format.{Format, ◌>>=◌}
+use Rattle.pm_store.specs.Format.{Format}
 use Rattle.pm_store.specs.Rows.{Row, values, listed, cell_bytes, cell_in, cell_row, cursor_row, IsSlotCell}
 use Rattle.pm_store.proofs.FormatLemmas.{IsBytes, IsBytes-take, IsBytes-drop, bind_some, Takes, Takes-then, IsExact, guard_some}
 

@@ -1,10 +1,10 @@
 -- Rows at the front of bytes.
-use Rattle.std.proofs.Common.{◌≡◌, ℕ, zero, suc, ◌+◌, ◌*◌, ◌/◌, ◌<◌, ◌≤◌, Bool, true, false, cond, ltb, List, [], ◌∷◌, length, map, take, drop, Option, Some, None, refl, sym, ap, ◌∙◌, arith}
+use Rattle.std.proofs.Common.{◌≡◌, ℕ, zero, suc, ◌+◌, ◌*◌, ◌/◌, ◌<◌, ◌≤◌, Bool, false, cond, ltb, List, length, map, take, drop, Some, None, refl, ap, ◌∙◌, arith}
 use Rattle.std.specs.Simd.{first_chunks}
 use Rattle.std.proofs.lemmas.Bool.{le-ltb}
 use Rattle.std.proofs.lemmas.List.{take-take, drop-take, length-take}
 use Rattle.std.proofs.Math.Nat.{mul-div_cancel}
-use Rattle.pm_store.specs.Format.{Format, ◌>>=◌, tested}
+use Rattle.pm_store.specs.Format.{Format, tested}
 use Rattle.pm_store.specs.Rows.{Row, values, listed}
 
 first_chunks-take : {A : Type 0} (n k m : ℕ) (xs : List A) → m ≡ k * n → first_chunks n k (take m xs) ≡ first_chunks n k xs

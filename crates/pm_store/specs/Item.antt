@@ -1,5 +1,5 @@
 -- The bytes of a stored item: its kind, its moment in eight bytes, and the fields of its kind (this project's own, version 1).
-use Rattle.std.specs.Prelude.{ℕ, ◌≡◌, ◌≤◌, ◌==◌, Bool, List, [], ◌∷◌, ◌++◌, Option, nat_le}
+use Rattle.std.specs.Prelude.{ℕ, ◌≤◌, ◌==◌, Bool, List, ◌++◌, nat_le}
 use Rattle.pm_base.specs.declared.moment.TheConstants.{LAST_MOMENT}
 use Rattle.pm_meas.specs.declared.cell.Cell.{Cell}
 use Rattle.pm_store.specs.declared.item.Item1.{Item1}

@@ -1,11 +1,11 @@
 -- Which item bytes are, read from the front.
-use Rattle.std.specs.Prelude.{ℕ, ◌≡◌, ◌==◌, Bool, List, Option, Some, None, IsSome, Result, Ok, Err, if◌then◌else◌}
+use Rattle.std.specs.Prelude.{ℕ, ◌≡◌, ◌==◌, List, Option, Some, None, IsSome, Result, Ok, Err, if◌then◌else◌}
 use Rattle.std.specs.Option.{option_map}
 use Rattle.pm_store.specs.declared.error.StoreError.{StoreError}
 use Rattle.pm_store.specs.declared.error.StoreError.TheVariants.{Bad, Memory}
 use Rattle.pm_store.specs.declared.item.Item1.{Item1}
 use Rattle.pm_store.specs.declared.item.Item1.TheVariants.{Boot, Booked, JobMade, JobState, JobDeleted, MonitorMade, MonitorState, MonitorDeleted, Subscribed, Unsubscribed}
-use Rattle.pm_store.specs.Format.{Format, ◌>>=◌, whole, short}
+use Rattle.pm_store.specs.Format.{◌>>=◌, whole, short}
 use Rattle.pm_store.specs.Item.{head, opened, booked, made, moved, subscribed}
 
 -- The item of a kind and a moment whose fields are all of these bytes.

@@ -1,10 +1,10 @@
 -- Lists of values that take the same number of bytes each, after how many they are (this project's own).
-use Rattle.std.specs.Prelude.{ℕ, ◌+◌, ◌*◌, ◌<◌, ◌^◌, ◌&&◌, Bool, true, List, [], ◌∷◌, ◌++◌, length, map, take, drop, Option, Some, None, nat_lt, nat_le, if◌then◌else◌}
+use Rattle.std.specs.Prelude.{ℕ, ◌+◌, ◌*◌, ◌<◌, ◌^◌, ◌&&◌, Bool, true, List, [], ◌∷◌, ◌++◌, length, map, take, drop, Some, None, nat_lt, nat_le, if◌then◌else◌}
 use Rattle.std.specs.Int.{w16, w32, w64, to_be_bytes, from_be_bytes}
 use Rattle.std.specs.List.{flat_map, AllByRecursion}
 use Rattle.std.specs.Simd.{first_chunks}
 use Rattle.pm_meas.specs.declared.cell.Cell.{Cell}
-use Rattle.pm_store.specs.Format.{Format, ◌>>=◌, byte, number16}
+use Rattle.pm_store.specs.Format.{Format, ◌>>=◌}
 
 -- A value in a row of so many bytes.
 pub record Row (A : Type 0) : Type 1 where

@@ -13,6 +13,7 @@ mod cursors;
 mod decoding;
 mod encoding;
 mod error;
+mod fitting;
 mod item;
 mod law;
 mod numbers;

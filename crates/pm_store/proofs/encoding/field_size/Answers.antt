@@ -1,4 +1,4 @@
-use Rattle.std.proofs.Common.{◌≡◌, ◌<◌, ◌^◌, ℕ, List, length, subst, sym, ap, ◌∙◌, arith}
+use Rattle.std.proofs.Common.{◌≡◌, ◌<◌, ◌^◌, ℕ, List, length, subst, sym, ap, ◌∙◌}
 use Rattle.pm_meas.specs.declared.cell.Cell.{Cell}
 use Rattle.pm_store.specs.declared.item.Item1.{Item1}
 use Rattle.pm_store.specs.declared.item.Item1.TheVariants.{Booked}

@@ -1,5 +1,4 @@
 use Rattle.std.proofs.Common.{◌≡◌, ◌≤◌, ◌*◌, ℕ, Bool, true, false, List, length, map, drop, Option, Some, None, cond, sym, ◌∙◌, ap, arith}
-use Rattle.pm_meas.specs.declared.cell.Cell.{Cell}
 use Rattle.pm_store.specs.Format.{number16}
 use Rattle.pm_store.specs.Rows.{cell_row, cell_in, listed, are_rising, values}
 use Rattle.pm_store.specs.Item.{cells_listed}

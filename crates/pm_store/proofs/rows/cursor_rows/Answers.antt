@@ -1,6 +1,6 @@
-use Rattle.std.proofs.Common.{◌≡◌, ◌≤◌, ◌*◌, length, sym, arith}
+use Rattle.std.proofs.Common.{◌*◌, sym, arith}
 use Rattle.pm_store.specs.Format.{byte}
-use Rattle.pm_store.specs.Rows.{cursor_row, values}
+use Rattle.pm_store.specs.Rows.{cursor_row}
 use Rattle.pm_store.proofs.RowLemmas.{values_are, listed_read}
 use Rattle.pm_store.proofs.rows.cursor_rows.Goals as goal
 
