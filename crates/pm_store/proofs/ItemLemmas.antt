@@ -1,77 +1,17 @@
--- An item is read back from its bytes, and what is read has exactly those bytes.
-use Rattle.std.proofs.Common.{◌≡◌, ℕ, ◌^◌, ◌<◌, ◌≤◌, Bool, true, false, cond, eqb, List, [], ◌∷◌, ◌++◌, length, Option, Some, None, refl, sym, ap, subst, ◌∙◌, arith}
-use Rattle.std.specs.Prelude.{◌↔◌, IfOk, IsSome, Result, Ok, Err}
+-- What is read as an item has exactly the bytes of that item.
+use Rattle.std.proofs.Common.{◌≡◌, ℕ, ◌≤◌, Bool, true, false, cond, eqb, List, Option, Some, None, refl, sym, subst, ◌∙◌, arith}
 use Rattle.std.specs.Option.{option_map}
-use Rattle.std.proofs.lemmas.Bool.{eqb-true, leb-true, le-leb}
+use Rattle.std.proofs.lemmas.Bool.{eqb-true, leb-true}
 use Rattle.std.proofs.lemmas.Option.{same_Some}
 use Rattle.pm_base.specs.declared.moment.TheConstants.{LAST_MOMENT}
-use Rattle.pm_store.specs.declared.error.StoreError.{StoreError}
-use Rattle.pm_store.specs.declared.error.StoreError.TheVariants.{Bad, Memory}
 use Rattle.pm_store.specs.declared.item.Item1.{Item1}
 use Rattle.pm_store.specs.declared.item.Item1.TheVariants.{Boot, Booked, JobMade, JobState, JobDeleted, MonitorMade, MonitorState, MonitorDeleted, Subscribed, Unsubscribed}
-use Rattle.pm_store.specs.declared.item.TheConstants.{VERSION}
-use Rattle.pm_store.specs.Format.{Format, byte, number16, number64, flag, short, long, both, tested, whole}
-use Rattle.pm_store.specs.Rows.{listed, cell_row, cursor_row, are_rising}
-use Rattle.pm_store.specs.Item.{moment_of, kind_of, head, opened, cells_listed, cursors_listed, booked, made, moved, subscribed, field_bytes, item_bytes, FieldsFit, IsItem}
-use Rattle.pm_store.specs.Reading.{item_of_kind, item_at, Answers}
-use Rattle.pm_store.proofs.FormatLemmas.{IsBytes, bind_some, IsExact, byte_exact, number16_exact, number64_exact, flag_exact, short_exact, long_exact, both_exact, tested_exact, whole_back, whole_only}
-use Rattle.pm_store.proofs.RowExactLemmas.{cell_exact, cursor_exact, listed_exact}
-
-head_exact : IsExact head
-head_exact = both_exact byte (tested (λ m. Rattle.std.proofs.Common.leb m LAST_MOMENT) number64) byte_exact
-    (tested_exact (λ m. Rattle.std.proofs.Common.leb m LAST_MOMENT) number64 number64_exact)
-
-opened_exact : IsExact opened
-opened_exact = both_exact (tested (λ v. eqb v VERSION) byte) long (tested_exact (λ v. eqb v VERSION) byte byte_exact) long_exact
-
-cells_exact : IsExact cells_listed
-cells_exact = tested_exact are_rising (listed number16 cell_row) (listed_exact number16 cell_row number16_exact cell_exact)
-
-cursors_exact : IsExact cursors_listed
-cursors_exact = listed_exact byte cursor_row byte_exact cursor_exact
-
-booked_exact : IsExact booked
-booked_exact = both_exact number64 (both cells_listed cursors_listed) number64_exact (both_exact cells_listed cursors_listed cells_exact cursors_exact)
-
-made_exact : IsExact made
-made_exact = both_exact short long short_exact long_exact
-
-moved_exact : IsExact moved
-moved_exact = both_exact short flag short_exact flag_exact
-
-subscribed_exact : IsExact subscribed
-subscribed_exact = both_exact short (both number16 short) short_exact (both_exact number16 short number16_exact short_exact)
-
--- The fields of an item are read back.
-fields_back : (item : Item1) → FieldsFit item → item_of_kind (kind_of item) (moment_of item) (field_bytes item) ≡ Some item
-fields_back (Boot moment version inventory) fits = rw (whole_back opened opened_exact (version, inventory) fits) refl
-fields_back (Booked moment tick cells cursors) fits = rw (whole_back booked booked_exact (tick, (cells, cursors)) fits) refl
-fields_back (JobMade moment id body) fits = rw (whole_back made made_exact (id, body) fits) refl
-fields_back (JobState moment id unlocked) fits = rw (whole_back moved moved_exact (id, unlocked) fits) refl
-fields_back (JobDeleted moment id) fits = rw (whole_back short short_exact id fits) refl
-fields_back (MonitorMade moment id body) fits = rw (whole_back made made_exact (id, body) fits) refl
-fields_back (MonitorState moment id unlocked) fits = rw (whole_back moved moved_exact (id, unlocked) fits) refl
-fields_back (MonitorDeleted moment id) fits = rw (whole_back short short_exact id fits) refl
-fields_back (Subscribed moment id port path) fits = rw (whole_back subscribed subscribed_exact (id, (port, path)) fits) refl
-fields_back (Unsubscribed moment id) fits = rw (whole_back short short_exact id fits) refl
-
-kind_small : (item : Item1) → kind_of item < 256
-kind_small (Boot moment version inventory) = omega arith
-kind_small (Booked moment tick cells cursors) = omega arith
-kind_small (JobMade moment id body) = omega arith
-kind_small (JobState moment id unlocked) = omega arith
-kind_small (JobDeleted moment id) = omega arith
-kind_small (MonitorMade moment id body) = omega arith
-kind_small (MonitorState moment id unlocked) = omega arith
-kind_small (MonitorDeleted moment id) = omega arith
-kind_small (Subscribed moment id port path) = omega arith
-kind_small (Unsubscribed moment id) = omega arith
-
-pub item_back : (item : Item1) → IsItem item → item_at (item_bytes item) ≡ Some item
-item_back item fits =
-    let moment : moment_of item ≤ LAST_MOMENT = fits.moment in
-    let h = head_exact.back (kind_of item, moment_of item) (field_bytes item) (kind_small item, (omega arith, le-leb _ _ moment)) in
-    rw h (fields_back item fits.fields)
+use Rattle.pm_store.specs.Format.{Format, short, whole}
+use Rattle.pm_store.specs.Item.{moment_of, kind_of, head, opened, booked, made, moved, subscribed, field_bytes, item_bytes, FieldsFit, IsItem}
+use Rattle.pm_store.specs.Reading.{item_of_kind, item_at}
+use Rattle.pm_store.proofs.FrontLemmas.{IsBytes, bind_some, IsExact}
+use Rattle.pm_store.proofs.FormatLemmas.{short_exact, whole_only}
+use Rattle.pm_store.proofs.KindLemmas.{head_exact, opened_exact, booked_exact, made_exact, moved_exact, subscribed_exact}
 
 -- What is told of an item that was read.
 record Told (item : Item1) (kind moment : ℕ) (bs : List ℕ) : Type 0 where
@@ -91,7 +31,8 @@ map_some : {A B : Type 0} (f : A → B) (o : Option A) (y : B) → option_map f 
 map_some f None y e = absurd cc
 map_some f (Some x) y e = (x, refl, same_Some (f x) y e)
 
-of_kind : {A : Type 0} (f : Format A) (kind n moment : ℕ) (make : A → Item1) (item : Item1) (bs : List ℕ) → IsExact f → IsOfKind f n moment make → IsBytes bs
+of_kind : {A : Type 0} (f : Format A) (kind n moment : ℕ) (make : A → Item1) (item : Item1) (bs : List ℕ) → IsExact f
+    → IsOfKind f n moment make → IsBytes bs
     → kind ≡ n → option_map make (whole f bs) ≡ Some item → Told item kind moment bs
 of_kind f kind n moment make item bs exact of fits k e =
     let a = map_some make (whole f bs) item e in
@@ -145,30 +86,3 @@ item_only bs item fits e =
       record { moment = omega (arith, told.moment_is, moment); fields = told.fits },
       front.0.parts ∙ rw (told.kind_is, told.moment_is, ← told.bytes_are) refl,
     )
-
--- What a decoder promises, where it answers what is read.
-pub is_read : (bs : List ℕ) (r : Result Item1 StoreError) → IsBytes bs → Answers r (item_at bs) → IfOk r (λ item. IsItem item × (bs ≡ item_bytes item))
-is_read bs (Ok item) fits a = item_only bs item fits a
-is_read bs (Err e) fits a = tt
-
-pub is_only : (bs : List ℕ) (r : Result Item1 StoreError) → Answers r (item_at bs) → (item : Item1) → IsItem item → bs ≡ item_bytes item
-    → Answers r (Some item)
-is_only bs r a item fits e = subst (λ (o : Option Item1). Answers r o) (ap item_at e ∙ item_back item fits) a
-
-abbrev Others : List ℕ → Type 0
-Others bs = (item : Item1) → IsItem item → bs ≡ item_bytes item → ⊥
-
-refuses : (bs : List ℕ) → Answers {A = Item1} (Err Bad) (item_at bs) → Others bs
-refuses bs a item fits e =
-    let some : item_at bs ≡ Some item = ap item_at e ∙ item_back item fits in
-    let none : item_at bs ≡ None = a in
-    cc
-
-given : (bs : List ℕ) (o : Option Item1) → IsBytes bs → item_at bs ≡ o → IsSome o → Others bs → ⊥
-given bs None fits is some others = absurd cc
-given bs (Some item) fits is some others = let p = item_only bs item fits is in others item p.0 p.1
-
-pub is_bad : (bs : List ℕ) (r : Result Item1 StoreError) → IsBytes bs → Answers r (item_at bs) → (r ≡ Err Bad) ↔ Others bs
-is_bad bs (Ok item) fits a = (λ e. absurd cc, λ others. let p = item_only bs item fits a in absurd (others item p.0 p.1))
-is_bad bs (Err Bad) fits a = (λ e. refuses bs a, λ others. refl)
-is_bad bs (Err Memory) fits a = (λ e. absurd cc, λ others. absurd (given bs (item_at bs) fits refl a others))

@@ -16,7 +16,8 @@ first_chunks-take n (suc k) m xs e =
 
 -- The rows that a slice of bytes was cut into are the values at the front of the bytes that it begins.
 pub values_are : {A : Type 0} (row : Row A) (count size : ℕ) (bs front : List ℕ) (rows : List (List ℕ)) → 0 < row.size
-    → size ≡ count * row.size → size ≤ length bs → front ≡ take size bs → rows ≡ first_chunks row.size (length front / row.size) front
+    → size ≡ count * row.size → size ≤ length bs → front ≡ take size bs
+    → rows ≡ first_chunks row.size (length front / row.size) front
     → map row.value rows ≡ values row count bs
 values_are row count size bs front rows some e le f r =
     let len : length front ≡ count * row.size = ap length f ∙ omega (arith, length-take size bs) in
@@ -24,13 +25,16 @@ values_are row count size bs front rows some e le f r =
     ap (map row.value) (r ∙ rw (few, f) (first_chunks-take row.size count size bs e))
 
 -- What is read where the number of rows was, and they are all there.
-pub listed_read : {A : Type 0} (count : Format ℕ) (row : Row A) (bs rest after : List ℕ) (n : ℕ) (xs : List A) → count.read bs ≡ Some (n, rest)
-    → n * row.size ≤ length rest → xs ≡ values row n rest → after ≡ drop (n * row.size) rest → (listed count row).read bs ≡ Some (xs, after)
+pub listed_read : {A : Type 0} (count : Format ℕ) (row : Row A) (bs rest after : List ℕ) (n : ℕ) (xs : List A)
+    → count.read bs ≡ Some (n, rest)
+    → n * row.size ≤ length rest → xs ≡ values row n rest → after ≡ drop (n * row.size) rest
+    → (listed count row).read bs ≡ Some (xs, after)
 listed_read count row bs rest after n xs read le x a =
     let long : ltb (length rest) (n * row.size) ≡ false = le-ltb _ _ le in
     rw (read, long, x, a) refl
 
 -- The same where it then passes the test, or doesn't.
-pub tested_read : {A : Type 0} (test : A → Bool) (f : Format A) (bs after : List ℕ) (x : A) (passes : Bool) → f.read bs ≡ Some (x, after)
+pub tested_read : {A : Type 0} (test : A → Bool) (f : Format A) (bs after : List ℕ) (x : A) (passes : Bool)
+    → f.read bs ≡ Some (x, after)
     → passes ≡ test x → (tested test f).read bs ≡ cond passes (Some (x, after)) None
 tested_read test f bs after x passes read t = rw (read, t) refl

@@ -27,7 +27,10 @@ abbrev pub number : Width → ℕ → Format ℕ
 number w limit =
     record {
       bytes = to_be_bytes w;
-      read = λ bs. if nat_lt (length bs) (byte_len w) then None else Some (from_be_bytes w (take (byte_len w) bs), drop (byte_len w) bs);
+      read = λ bs. if nat_lt (length bs) (byte_len w) then None else Some (
+        from_be_bytes w (take (byte_len w) bs),
+        drop (byte_len w) bs,
+      );
       Fits = λ n. n < limit;
     }
 

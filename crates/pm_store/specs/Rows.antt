@@ -22,7 +22,10 @@ abbrev pub listed : {A : Type 0} → Format ℕ → Row A → Format (List A)
 listed count row =
     record {
       bytes = λ xs. count.bytes (length xs) ++ flat_map row.bytes xs;
-      read = λ bs. count.read bs >>= λ n. if nat_lt (length n.1) (n.0 * row.size) then None else Some (values row n.0 n.1, drop (n.0 * row.size) n.1);
+      read = λ bs. count.read bs >>= λ n. if nat_lt (length n.1) (n.0 * row.size) then None else Some (
+        values row n.0 n.1,
+        drop (n.0 * row.size) n.1,
+      );
       Fits = λ xs. count.Fits (length xs) × AllByRecursion row.Fits xs;
     }
 

@@ -20,7 +20,8 @@ cell_among cells (Some slot) = cell_at cells slot
 -- The item of a history, where the slots of objects and metrics are these. An inventory's text and cursors are no part of it.
 abbrev pub item_in : (ℕ → ℕ → Option ℕ) → Item1 → Item
 item_in slot_of (stored.Boot moment version inventory) = Opened moment
-item_in slot_of (stored.Booked moment tick cells cursors) = Booked moment tick (λ object metric. cell_among cells (slot_of object metric))
+item_in slot_of (stored.Booked moment tick cells cursors) =
+    Booked moment tick (λ object metric. cell_among cells (slot_of object metric))
 item_in slot_of (stored.JobMade moment id body) = Changed (entry.JobMade moment id body)
 item_in slot_of (stored.JobState moment id unlocked) = Changed (entry.JobState moment id unlocked)
 item_in slot_of (stored.JobDeleted moment id) = Changed (entry.JobDeleted moment id)

@@ -1,5 +1,5 @@
 use Rattle.std.proofs.Common.{arith}
-use Rattle.pm_store.proofs.ItemLemmas.{is_read, is_only, is_bad}
+use Rattle.pm_store.proofs.DecodeLemmas.{is_read, is_only, is_bad}
 use Rattle.pm_store.proofs.decoding.decode.Goals as goal
 
 pub returns-clause-read : goal.returns-clause-read

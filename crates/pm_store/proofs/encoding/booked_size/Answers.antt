@@ -2,7 +2,8 @@ use Rattle.std.proofs.Common.{length-append, arith}
 use Rattle.std.specs.List.{flat_map}
 use Rattle.std.specs.Int.{w64, to_be_bytes}
 use Rattle.pm_store.specs.Rows.{cell_bytes, cell_row, cursor_row}
-use Rattle.pm_store.proofs.RowExactLemmas.{cell_exact, cursor_exact, size_of_rows}
+use Rattle.pm_store.proofs.CellLemmas.{cell_exact, cursor_exact}
+use Rattle.pm_store.proofs.RowExactLemmas.{size_of_rows}
 use Rattle.pm_store.proofs.encoding.booked_size.Goals as goal
 
 pub returns-clause-size : goal.returns-clause-size

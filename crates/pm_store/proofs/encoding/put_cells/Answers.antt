@@ -7,7 +7,8 @@ use Rattle.pm_store.specs.Rows.{cell_bytes}
 use Rattle.pm_store.proofs.encoding.put_cells.Goals as goal
 
 -- One more cell's bytes.
-one_more : (xs : List (ℕ × Cell)) (i : ℕ) (d : ℕ × Cell) (old now next row : List ℕ) → i < length xs → now ≡ old ++ flat_map cell_bytes (take i xs)
+one_more : (xs : List (ℕ × Cell)) (i : ℕ) (d : ℕ × Cell) (old now next row : List ℕ) → i < length xs
+    → now ≡ old ++ flat_map cell_bytes (take i xs)
     → row ≡ cell_bytes (get_or xs i d) → next ≡ now ++ row → next ≡ old ++ flat_map cell_bytes (take (i + 1) xs)
 one_more xs i d old now next row lt n r e =
     let x : List ℕ = cell_bytes (get_or xs i d) in
@@ -19,5 +20,14 @@ one_more xs i d old now next row lt n r e =
 
 pub loop-pair-preserved : goal.loop-pair-preserved
 loop-pair-preserved c =
-    one_more c.args.cells.now c.loop-pair.pair-index (0, record { n = 0; sum = 0; max = 0; min = 0 }) c.args.out.now.items c.loop-pair.out.items
+    one_more c.args.cells.now c.loop-pair.pair-index (
+      0,
+      record {
+        n = 0;
+        sum = 0;
+        max = 0;
+        min =
+            0;
+      },
+    ) c.args.out.now.items c.loop-pair.out.items
     c.extend_from_slice.new.self.items c.row_of.result (omega arith) c.loop-pair.invariant c.row_of.ensures c.in_ok-extend_from_slice.ensures.items

@@ -6,6 +6,13 @@ use Rattle.pm_store.proofs.fitting.cursors_fit.Goals as goal
 
 pub returns : goal.returns
 returns c = (
-  λ t. (ltb-true _ _ t, recursion_from_All (λ n. n < 2 ^ 64) c.args.cursors.now (λ k d lt. omega (arith, get_or_default c.args.cursors.now k d 0 lt, c.type_inv.cursors k))),
+  λ t. (
+    ltb-true _ _ t,
+    recursion_from_All (λ n. n < 2 ^ 64) c.args.cursors.now (λ k d lt. omega (
+      arith,
+      get_or_default c.args.cursors.now k d 0 lt,
+      c.type_inv.cursors k,
+    )),
+  ),
   λ fits. lt-ltb _ _ fits.0,
 )

@@ -8,7 +8,8 @@ use Rattle.pm_store.specs.declared.item.Item1.TheVariants.{Boot, Booked, JobMade
 use Rattle.pm_store.specs.Stored.{item_in, items_in, cursors_in}
 use Rattle.pm_store.proofs.law.cursors_of_each.Goals as goal
 
-each : (slot_of : ℕ → ℕ → Option ℕ) (items : List Item1) → length (cursors_in items) ≡ count_by is_booked (items_in slot_of items)
+each : (slot_of : ℕ → ℕ → Option ℕ) (items : List Item1)
+    → length (cursors_in items) ≡ count_by is_booked (items_in slot_of items)
 each s [] = refl
 each s (Boot moment version inventory ∷ items) = each s items
 each s (Booked moment tick cells cursors ∷ items) =

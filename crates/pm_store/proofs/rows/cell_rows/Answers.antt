@@ -5,7 +5,10 @@ use Rattle.pm_store.specs.Item.{cells_listed}
 use Rattle.pm_store.proofs.RowLemmas.{values_are, listed_read, tested_read}
 use Rattle.pm_store.proofs.rows.cell_rows.Goals as goal
 
-read : (bs rest front after : List ℕ) (count size : ℕ) (rows : List (List ℕ)) (rise : Bool) → number16.read bs ≡ Some (count, rest)
+read : (bs rest front after : List ℕ) (count size : ℕ) (rows : List (List ℕ)) (rise : Bool) → number16.read bs ≡ Some (
+  count,
+  rest,
+)
     → size ≡ count * 22 → size ≤ length rest → front ≡ Rattle.std.proofs.Common.take size rest → after ≡ drop size rest
     → map cell_in rows ≡ values cell_row count rest → rise ≡ are_rising (map cell_in rows)
     → cells_listed.read bs ≡ cond rise (Some (map cell_in rows, after)) None
