@@ -94,6 +94,7 @@ fn a_now_after_a_gap_takes_the_tick_before_it(rt: HostRuntime) -> Result<(), Fai
     history.push(Entry::Now {
         moment: START + 86_410,
     })?;
+    assert_eq!(rt; kept(history.as_slice()).len(), 3);
     history.push(Entry::Boot {
         moment: START + 200_000,
     })?;
@@ -103,7 +104,6 @@ fn a_now_after_a_gap_takes_the_tick_before_it(rt: HostRuntime) -> Result<(), Fai
     let want =
         "boot 1699999200\nbooked 1700085600 28333320 1 2\nboot 1700199200\nboot 1700199200\n";
     assert_eq!(rt; lines_of(rt.alloc(), history.as_slice())?.as_str(), want);
-    assert_eq!(rt; kept(&history.as_slice()[..4]).len(), 3);
     Ok(())
 }
 
