@@ -101,12 +101,12 @@ pub(crate) fn measured(
 
 // One threshold, as its words give it.
 #[derive(Drop)]
-struct Threshold {
-    metrics: Vec<u64>,
-    up: bool,
-    down: bool,
-    value: u64,
-    hysteresis: u64,
+pub(crate) struct Threshold {
+    pub(crate) metrics: Vec<u64>,
+    pub(crate) up: bool,
+    pub(crate) down: bool,
+    pub(crate) value: u64,
+    pub(crate) hysteresis: u64,
 }
 
 fn directions(word: &[u8]) -> Option<(bool, bool)> {
@@ -118,7 +118,7 @@ fn directions(word: &[u8]) -> Option<(bool, bool)> {
     }
 }
 
-fn read_threshold(
+pub(crate) fn read_threshold(
     alloc: Global,
     inventory: &Inventory,
     word: &[u8],

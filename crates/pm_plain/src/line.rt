@@ -1,5 +1,6 @@
 //! What one line says: an entry, with what its body asks for.
 use crate::asking::{granularity, measured, nothing, parts, unlocked, watched};
+use crate::body::{job_body, monitor_body};
 use crate::words::{number, numbers, split};
 use pm_base::{Blob, Text, is_job_id, read_moment};
 use pm_history::{Entry, Side};
@@ -116,12 +117,11 @@ fn monitor_terms(
     Ok(Some(terms))
 }
 
-// The line itself serves as the body of what it makes.
+// The body is the canonical one of what the line asks for.
 fn made(
     alloc: Global,
     inventory: &Inventory,
     side: Side,
-    line: &[u8],
     moment: u64,
     words: &[&[u8]],
 ) -> Result<Option<Said>, AllocError> {
@@ -138,15 +138,25 @@ fn made(
     let Some(terms) = terms else {
         return Ok(None);
     };
-    let body = Blob::from_slice(alloc, line)?;
+    let body = match side {
+        Side::Job => job_body(alloc, inventory, rest)?,
+        Side::Monitor => monitor_body(alloc, inventory, rest)?,
+    };
+    let Some(meant) = body else {
+        return Ok(None);
+    };
+    let body = Blob::from_slice(alloc, meant.as_bytes())?;
     let entry = match side {
         Side::Job => Entry::JobMade { moment, id, body },
         Side::Monitor => Entry::MonitorMade { moment, id, body },
     };
-    let body = Blob::from_slice(alloc, line)?;
     Ok(Some(Said {
         entry,
-        meaning: Some(Meaning { side, body, terms }),
+        meaning: Some(Meaning {
+            side,
+            body: meant,
+            terms,
+        }),
     }))
 }
 
@@ -208,8 +218,8 @@ pub(crate) fn read_line(
         b"boot" if rest.is_empty() => Ok(Some(plain(Entry::Boot { moment }))),
         b"now" if rest.is_empty() => Ok(Some(plain(Entry::Now { moment }))),
         b"event" => Ok(event(inventory, moment, rest)),
-        b"job" => made(alloc, inventory, Side::Job, line, moment, rest),
-        b"monitor" => made(alloc, inventory, Side::Monitor, line, moment, rest),
+        b"job" => made(alloc, inventory, Side::Job, moment, rest),
+        b"monitor" => made(alloc, inventory, Side::Monitor, moment, rest),
         verb => changed(alloc, verb, moment, rest),
     }
 }

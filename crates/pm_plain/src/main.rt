@@ -1,4 +1,5 @@
-//! What follows from a history by the definitions: reads an inventory and entries, and prints the notices. No part of the product.
+//! What follows from a history by the definitions: reads an inventory and entries, and prints the notices, or, where the first word is
+//! `items`, the stored items. No part of the product.
 //!
 //! After the inventory, up to its line `end`, stands one entry a line:
 //!
@@ -12,23 +13,40 @@
 #![tactic(auto)]
 
 mod asking;
+mod body;
 mod inventory;
+mod items;
 mod line;
 mod run;
 mod stop;
+#[cfg(test)]
+mod tests;
 mod words;
 
-use run::told;
+use run::{Asked, told};
+use std::env;
 use std::io::{self, Read, Write};
 use std::process::ExitCode;
 use stop::Stop;
 
+// What the first word of the command line asks for.
+fn asked(rt: &HostRuntime) -> Result<Asked, Stop> {
+    let Ok(mut words) = env::args(rt) else {
+        return Err(Stop::Fault);
+    };
+    match words.nth(1) {
+        Some(word) if word.as_str() == "items" => Ok(Asked::Items),
+        _ => Ok(Asked::Notices),
+    }
+}
+
 fn answer(rt: &HostRuntime) -> Result<(), Stop> {
+    let asked = asked(rt)?;
     let mut input = Vec::new(rt.alloc());
     let Ok(_) = rt.reader().read_to_end(&mut input) else {
         return Err(Stop::Fault);
     };
-    let lines = told(rt.alloc(), input.as_slice())?;
+    let lines = told(rt.alloc(), asked, input.as_slice())?;
     match io::writer(rt).write_all(lines.as_slice()) {
         Ok(()) => Ok(()),
         Err(_) => Err(Stop::Fault),

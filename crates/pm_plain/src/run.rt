@@ -1,6 +1,7 @@
-//! From the bytes of an input to the lines of its notices.
+//! From the bytes of an input to the lines of its notices, or of its items.
 use crate::asking::nothing;
 use crate::inventory::Reading;
+use crate::items::item_lines;
 use crate::line::{Said, read_line};
 use crate::stop::Stop;
 use pm_history::Entry;
@@ -9,7 +10,14 @@ use pm_slow::{Book, notices, print_notices};
 use std::alloc::{AllocError, Global};
 
 /// The most entries of an input.
-const MAX_ENTRIES: usize = 1_000_000;
+pub(crate) const MAX_ENTRIES: usize = 1_000_000;
+
+/// What is printed.
+#[derive(Clone, Copy)]
+pub(crate) enum Asked {
+    Notices,
+    Items,
+}
 
 // The history so far, and what its bodies ask for.
 #[derive(Drop)]
@@ -38,7 +46,7 @@ impl Past {
         Ok(())
     }
 
-    fn lines(&self, alloc: Global) -> Result<Vec<u8>, Stop> {
+    fn notice_lines(&self, alloc: Global) -> Result<Vec<u8>, Stop> {
         if self.entries.len() > MAX_ENTRIES {
             return Err(Stop::Memory);
         }
@@ -60,8 +68,8 @@ fn take(
     }
 }
 
-/// The lines of the notices, or the first line that is refused.
-pub(crate) fn told(alloc: Global, input: &[u8]) -> Result<Vec<u8>, Stop> {
+/// The lines that are asked for, or the first line that is refused.
+pub(crate) fn told(alloc: Global, asked: Asked, input: &[u8]) -> Result<Vec<u8>, Stop> {
     let mut past = Past {
         book: Book {
             meanings: Vec::new(alloc),
@@ -85,8 +93,11 @@ pub(crate) fn told(alloc: Global, input: &[u8]) -> Result<Vec<u8>, Stop> {
             None => reading.take(number, line)?,
         }
     }
-    if inventory.is_none() {
+    let Some(inventory) = inventory else {
         return Err(Stop::Line(number.saturating_add(1)));
+    };
+    match asked {
+        Asked::Notices => past.notice_lines(alloc),
+        Asked::Items => item_lines(alloc, &inventory, past.entries.as_slice()),
     }
-    past.lines(alloc)
 }

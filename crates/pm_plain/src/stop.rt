@@ -11,6 +11,8 @@ pub enum Stop {
     Fault,
     /// Memory is wanting.
     Memory,
+    /// An item has no bytes, or is of an entry that no line makes.
+    NoItem,
 }
 
 impl From<AllocError> for Stop {

@@ -1,3 +1,4 @@
 pub mod Book
 pub mod First
 pub mod Seen
+pub mod Items

@@ -18,7 +18,7 @@ pub fn last_moment(history: &[Entry]) -> u64
     last
 }
 
-fn pick(test: bool, one: usize, other: usize) -> usize
+pub(crate) fn pick(test: bool, one: usize, other: usize) -> usize
     ensures { result ≡ (if test then one else other) }
 {
     if test { one } else { other }

@@ -17,7 +17,7 @@ use pm_meas::plain::value_of;
 use std::alloc::{AllocError, Global};
 
 // The value of a registered event of the object and the metric, where its tick passes.
-fn value_in(entry: &Entry, object: u16, metric: u8, passes: bool) -> Option<u32>
+pub(crate) fn value_in(entry: &Entry, object: u16, metric: u8, passes: bool) -> Option<u32>
     ensures { (p : ℕ → Bool) → passes ≡ p (tick_of (moment_of entry.now)) → option_to_list result ≡ value_where object metric p entry.now }
 {
     match entry {
@@ -38,7 +38,7 @@ fn value_in(entry: &Entry, object: u16, metric: u8, passes: bool) -> Option<u32>
     }
 }
 
-fn add(values: &mut Vec<u32>, value: Option<u32>) -> Result<(), AllocError>
+pub(crate) fn add(values: &mut Vec<u32>, value: Option<u32>) -> Result<(), AllocError>
     ensures { OnOk result (values.new.items ≡ values.old.items ++ option_to_list value) }
 {
     if let Some(value) = value {

@@ -1,0 +1,9 @@
+pub mod RowLemmas
+pub mod FrontLemmas
+pub mod NumberLemmas
+pub mod FormatLemmas
+pub mod CellLemmas
+pub mod RowExactLemmas
+pub mod KindLemmas
+pub mod ItemLemmas
+pub mod DecodeLemmas

@@ -1,0 +1,32 @@
+//! Numbers in bytes, the greatest byte first.
+ghost use Rattle.std.specs.Prelude.{◌≡◌, length};
+ghost use Rattle.std.specs.Int.{w16, w32, w64, from_be_bytes};
+
+/// The number in two bytes.
+#[inline(always)]
+pub(crate) fn number_in_2(bytes: &[u8]) -> u16
+    requires { length bytes.now ≡ 2 }
+    ensures { result ≡ from_be_bytes w16 bytes.now }
+{
+    u16::from_be_bytes([bytes[0], bytes[1]])
+}
+
+/// The number in four bytes.
+#[inline(always)]
+pub(crate) fn number_in_4(bytes: &[u8]) -> u32
+    requires { length bytes.now ≡ 4 }
+    ensures { result ≡ from_be_bytes w32 bytes.now }
+{
+    u32::from_be_bytes([bytes[0], bytes[1], bytes[2], bytes[3]])
+}
+
+/// The number in eight bytes.
+#[inline(always)]
+pub(crate) fn number_in_8(bytes: &[u8]) -> u64
+    requires { length bytes.now ≡ 8 }
+    ensures { result ≡ from_be_bytes w64 bytes.now }
+{
+    u64::from_be_bytes([
+        bytes[0], bytes[1], bytes[2], bytes[3], bytes[4], bytes[5], bytes[6], bytes[7],
+    ])
+}
