@@ -1,0 +1,4 @@
+pub mod RowLemmas
+pub mod EndLemmas
+pub mod SmallLemmas
+pub mod StandLemmas
