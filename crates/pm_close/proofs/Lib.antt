@@ -2,3 +2,5 @@ pub mod RowLemmas
 pub mod EndLemmas
 pub mod SmallLemmas
 pub mod StandLemmas
+pub mod StayLemmas
+pub mod MarkLemmas

@@ -1,2 +1,4 @@
 pub mod Rows
 pub mod Cells
+pub mod Marks
+pub mod Laws

@@ -2,8 +2,12 @@
 #![tactic(auto)]
 
 mod cells;
+mod law;
 mod limits;
+mod marks;
 mod row;
 
 pub use cells::TickCells;
+pub use law::{boot_counts_none, cells_stay, marks_stay};
 pub use limits::{MOST_EVENTS, MOST_TICKS};
+pub use marks::{Marks, counts};

@@ -1,0 +1,36 @@
+-- What stays, whatever comes next.
+use Rattle.std.specs.Prelude.{ℕ, ◌<◌, ◌≤◌, ◌≡◌, false, List}
+use Rattle.pm_base.specs.Moment.{tick_of}
+use Rattle.pm_inventory.specs.Inventory.{SlotKey}
+use Rattle.pm_history.specs.declared.entry.Side.{Side}
+use Rattle.pm_history.specs.declared.entry.Entry.{Entry}
+use Rattle.pm_history.specs.declared.entry.Entry.TheVariants.{Boot}
+use Rattle.pm_history.specs.Entry.{moment_of}
+use Rattle.pm_history.specs.History.{History, ◌▷◌, IsHistory, size, last_moment}
+use Rattle.pm_history.specs.Terms.{Terms}
+use Rattle.pm_history.specs.Standing.{Making}
+use Rattle.pm_history.specs.Counted.{is_counted}
+use Rattle.pm_close.specs.declared.cells.TickCells.{TickCells}
+use Rattle.pm_close.specs.declared.marks.Marks.{Marks}
+use Rattle.pm_close.specs.Cells.{CellsStand}
+use Rattle.pm_close.specs.Marks.{MarksStand}
+
+-- Kept cells stand as well after an entry in the tick of the last moment.
+abbrev pub CellsStay : Type 0
+CellsStay =
+    (slots : List SlotKey) (h : History) (e : Entry) (kept : TickCells)
+    → last_moment h ≤ moment_of e → tick_of (moment_of e) ≡ tick_of (last_moment h)
+    → CellsStand slots h kept → CellsStand slots (h ▷ e) kept
+
+-- Marks of ticks that are over stand as well after any entry.
+abbrev pub MarksStay : Type 0
+MarksStay =
+    (terms : Side → List ℕ → Terms) (h : History) (e : Entry) (w : Making) (granularity tick : ℕ) (marks : Marks)
+    → last_moment h ≤ moment_of e → tick ≤ tick_of (last_moment h)
+    → MarksStand terms h w granularity tick marks → MarksStand terms (h ▷ e) w granularity tick marks
+
+-- No tick that a Boot ends is counted.
+abbrev pub BootCountsNone : Type 0
+BootCountsNone =
+    (terms : Side → List ℕ → Terms) (h : History) (m : ℕ) (w : Making) (t : ℕ)
+    → 0 < size h → tick_of (last_moment h) ≤ t → t < tick_of m → is_counted terms (h ▷ Boot m) w t ≡ false

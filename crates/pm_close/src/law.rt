@@ -1,0 +1,17 @@
+//! What holds of kept cells and of marks over every history.
+ghost use Rattle.pm_close.specs.Laws.{BootCountsNone, CellsStay, MarksStay};
+
+/// An entry in the tick of the last moment leaves what is kept. A law: the call does nothing.
+pub fn cells_stay()
+    ensures { CellsStay }
+{}
+
+/// An entry leaves the marks of ticks that are over. A law: the call does nothing.
+pub fn marks_stay()
+    ensures { MarksStay }
+{}
+
+/// A start of the program counts none of the ticks that it ends. A law: the call does nothing.
+pub fn boot_counts_none()
+    ensures { BootCountsNone }
+{}
