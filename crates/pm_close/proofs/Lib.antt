@@ -4,3 +4,6 @@ pub mod SmallLemmas
 pub mod StandLemmas
 pub mod StayLemmas
 pub mod MarkLemmas
+pub mod MergeLemmas
+pub mod PeriodLemmas
+pub mod KnownLemmas

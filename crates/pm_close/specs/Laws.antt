@@ -4,7 +4,8 @@ use Rattle.pm_base.specs.Moment.{tick_of}
 use Rattle.pm_inventory.specs.Inventory.{SlotKey}
 use Rattle.pm_history.specs.declared.entry.Side.{Side}
 use Rattle.pm_history.specs.declared.entry.Entry.{Entry}
-use Rattle.pm_history.specs.declared.entry.Entry.TheVariants.{Boot}
+use Rattle.pm_history.specs.declared.entry.Entry.TheVariants.{Boot, Now}
+use Rattle.pm_meas.specs.declared.cell.Cell.{Cell}
 use Rattle.pm_history.specs.Entry.{moment_of}
 use Rattle.pm_history.specs.History.{History, ◌▷◌, IsHistory, size, last_moment}
 use Rattle.pm_history.specs.Terms.{Terms}
@@ -12,8 +13,9 @@ use Rattle.pm_history.specs.Standing.{Making}
 use Rattle.pm_history.specs.Counted.{is_counted}
 use Rattle.pm_close.specs.declared.cells.TickCells.{TickCells}
 use Rattle.pm_close.specs.declared.marks.Marks.{Marks}
-use Rattle.pm_close.specs.Cells.{CellsStand}
+use Rattle.pm_close.specs.Cells.{CellsStand, AreOpen}
 use Rattle.pm_close.specs.Marks.{MarksStand}
+use Rattle.pm_close.specs.Values.{KnowsCells}
 
 -- Kept cells stand as well after an entry in the tick of the last moment.
 abbrev pub CellsStay : Type 0
@@ -34,3 +36,10 @@ abbrev pub BootCountsNone : Type 0
 BootCountsNone =
     (terms : Side → List ℕ → Terms) (h : History) (m : ℕ) (w : Making) (t : ℕ)
     → 0 < size h → tick_of (last_moment h) ≤ t → t < tick_of m → is_counted terms (h ▷ Boot m) w t ≡ false
+
+-- With kept cells and the row of the open tick, the cells of all ticks that a Now or a Boot ends are known.
+pub record CellsKnown : Type 0 where
+  pub now : (slots : List SlotKey) (h : History) (m : ℕ) (kept : TickCells) (row : List Cell)
+      → IsHistory h → AreOpen slots h row → CellsStand slots h kept → KnowsCells slots (h ▷ Now m) kept row
+  pub boot : (slots : List SlotKey) (h : History) (m : ℕ) (kept : TickCells) (row : List Cell)
+      → IsHistory h → AreOpen slots h row → CellsStand slots h kept → KnowsCells slots (h ▷ Boot m) kept row

@@ -1,4 +1,5 @@
 pub mod Rows
 pub mod Cells
 pub mod Marks
+pub mod Values
 pub mod Laws

@@ -9,7 +9,7 @@ ghost use Rattle.pm_meas.specs.Cell.{cell_of};
 ghost use Rattle.pm_inventory.specs.Inventory.{SlotKey};
 ghost use Rattle.pm_history.specs.History.{History, Start, ◌▷◌, IsHistory, size, last_moment};
 ghost use Rattle.pm_history.specs.declared.entry.Entry.TheVariants.{Boot, Now};
-ghost use Rattle.pm_close.specs.Rows.{AreSmall};
+ghost use Rattle.pm_close.specs.Rows.{AreSmall, IsSmall};
 ghost use Rattle.pm_close.specs.declared.limits.TheConstants.{MOST_TICKS};
 
 use crate::limits::MOST_TICKS;
@@ -33,6 +33,7 @@ pub struct TickCells {
 
 impl TickCells {
     ghost use Rattle.pm_close.specs.Cells.{CellsStand, AreOpen, HasRoom, SameCells};
+    ghost use Rattle.pm_close.specs.Values.{known_cell};
 
     /// No row yet.
     pub fn new(alloc: Global, slots: u32) -> TickCells
@@ -92,6 +93,39 @@ impl TickCells {
     {
         self.forget_before(from);
         self.add_blank(tick - self.first - self.ticks);
+    }
+
+    /// How many slots there are.
+    pub fn slots(&self) -> usize
+        ensures { result ≡ self.now.slots }
+    {
+        self.slots
+    }
+
+    /// The first tick of which cells are kept.
+    pub fn first(&self) -> u64
+        ensures { result ≡ self.now.first }
+    {
+        self.first
+    }
+
+    /// The cell of a slot in a tick: that of `row` in the tick after the kept ones, and one without values in all others.
+    pub fn known(&self, row: &[Cell], slot: usize, tick: u64) -> Cell
+        requires slot { slot < self.now.slots }
+        requires wide { length row.now ≡ self.now.slots }
+        requires small { AreSmall row.now }
+        ensures cell { result ≡ known_cell self.now row.now slot tick }
+        ensures small { IsSmall result }
+    {
+        if tick < self.first {
+            Cell::empty()
+        } else if tick < self.first + self.ticks {
+            self.cells[(tick - self.first) as usize * self.slots + slot]
+        } else if tick == self.first + self.ticks {
+            row[slot]
+        } else {
+            Cell::empty()
+        }
     }
 
     // Drops the rows of the ticks before this one.

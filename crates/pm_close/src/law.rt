@@ -1,5 +1,5 @@
 //! What holds of kept cells and of marks over every history.
-ghost use Rattle.pm_close.specs.Laws.{BootCountsNone, CellsStay, MarksStay};
+ghost use Rattle.pm_close.specs.Laws.{BootCountsNone, CellsKnown, CellsStay, MarksStay};
 
 /// An entry in the tick of the last moment leaves what is kept. A law: the call does nothing.
 pub fn cells_stay()
@@ -14,4 +14,9 @@ pub fn marks_stay()
 /// A start of the program counts none of the ticks that it ends. A law: the call does nothing.
 pub fn boot_counts_none()
     ensures { BootCountsNone }
+{}
+
+/// Kept cells and the cells of the open tick are those of all ticks that an entry ends. A law: the call does nothing.
+pub fn cells_known()
+    ensures { CellsKnown }
 {}

@@ -6,8 +6,10 @@ mod law;
 mod limits;
 mod marks;
 mod row;
+mod value;
 
 pub use cells::TickCells;
-pub use law::{boot_counts_none, cells_stay, marks_stay};
+pub use law::{boot_counts_none, cells_known, cells_stay, marks_stay};
 pub use limits::{MOST_EVENTS, MOST_TICKS};
 pub use marks::{Marks, counts};
+pub use value::period_value;
