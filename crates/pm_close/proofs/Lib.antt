@@ -7,3 +7,4 @@ pub mod MarkLemmas
 pub mod MergeLemmas
 pub mod PeriodLemmas
 pub mod KnownLemmas
+pub mod PartLemmas

@@ -5,11 +5,18 @@ mod cells;
 mod law;
 mod limits;
 mod marks;
+mod measure;
+mod part;
+mod report;
 mod row;
 mod value;
+mod values;
 
 pub use cells::TickCells;
 pub use law::{boot_counts_none, cells_known, cells_stay, marks_stay};
 pub use limits::{MOST_EVENTS, MOST_TICKS};
 pub use marks::{Marks, counts};
+pub use measure::Measure;
+pub use part::PartValues;
+pub use report::{Due, OpenReport};
 pub use value::period_value;

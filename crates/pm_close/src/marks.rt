@@ -1,6 +1,6 @@
 //! Which ticks of a granularity period are counted.
 
-ghost use Rattle.std.specs.Prelude.{◌≡◌, ◌≤◌, ◌<◌, ◌+◌, ◌*◌, ◌-◌, ◌%◌, ◌^◌, ◌↔◌, ◌&&◌, ◌||◌, not, nat_lt, ℕ, Bool, true, false, List, IsSome, IfSome, Some, take, length};
+ghost use Rattle.std.specs.Prelude.{◌≡◌, ◌≤◌, ◌<◌, ◌+◌, ◌*◌, ◌-◌, ◌%◌, ◌^◌, ◌↔◌, ◌&&◌, ◌||◌, not, nat_lt, ℕ, Bool, true, false, List, IsSome, IfSome, MatchOption, Some};
 ghost use Rattle.pm_base.specs.Moment.{tick_of};
 ghost use Rattle.pm_history.specs.declared.entry.Side.{Side};
 ghost use Rattle.pm_history.specs.declared.entry.Entry.TheVariants.{Now};
@@ -75,6 +75,8 @@ impl Marks {
             → mark ≡ is_counted terms h w tick → IfSome result (PeriodStands terms h w granularity (tick + 1)) }
         ensures ends { IsSome result ↔ (self.old.count + 1 ≡ granularity) }
         ensures within { self.new.count < granularity }
+        ensures marks { MatchOption result (IsMarked self.old mark self.new) (IsMarked self.old mark) }
+        ensures next { IsSome result → (self.new.begin ≡ self.old.begin + granularity) × (self.new.count ≡ 0) }
     {
         self.push(mark);
         if (self.count as u64) < granularity {
