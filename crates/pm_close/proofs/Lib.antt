@@ -8,3 +8,4 @@ pub mod MergeLemmas
 pub mod PeriodLemmas
 pub mod KnownLemmas
 pub mod PartLemmas
+pub mod ReportLemmas

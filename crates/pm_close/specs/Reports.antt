@@ -30,6 +30,19 @@ module _ (terms : Side → List ℕ → Terms) where
     pub parts : AreParts h w t report.begin (earlier ++ report.parts.items)
     pub counted : report.counted ≡ some_counted terms h w report.begin (length (earlier ++ report.parts.items) * t.granularity)
 
+  -- The same where the last granularity period of the reporting period may have ended with the tick before this one.
+  pub record ReportReaches (h : History) (w : Making) (t : Terms) (tick : ℕ) (earlier : List PartValues) (report : OpenReport) : Type 0 where
+    pub reports : ℕ
+    pub begins : report.begin ≡ reports * reporting t
+    pub earlier_are : report.earlier ≡ length earlier
+    pub begun : report.begin < tick
+    pub marks : MarksStand terms h w t.granularity tick report.marks
+    pub at : report.marks.begin ≡ report.begin + length (earlier ++ report.parts.items) * t.granularity
+    pub no_more : length (earlier ++ report.parts.items) ≤ t.parts
+    pub full : length (earlier ++ report.parts.items) ≡ t.parts → report.marks.count ≡ 0
+    pub parts : AreParts h w t report.begin (earlier ++ report.parts.items)
+    pub counted : report.counted ≡ some_counted terms h w report.begin (length (earlier ++ report.parts.items) * t.granularity)
+
   -- A report that ended has all parts of its reporting period; there is a file of it where some tick of them is counted.
   pub record DueStands (h : History) (w : Making) (t : Terms) (end : ℕ) (earlier : List PartValues) (due : Due) : Type 0 where
     pub ends : due.begin + reporting t ≡ end

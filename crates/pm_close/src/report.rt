@@ -1,10 +1,10 @@
 //! The open reporting period of a job.
 
-ghost use Rattle.std.specs.Prelude.{◌≡◌, ◌≤◌, ◌<◌, ◌+◌, ◌*◌, ◌^◌, ◌++◌, ◌∷◌, ◌||◌, ℕ, List, [], IfOk, OnOk, MatchOption, length};
+ghost use Rattle.std.specs.Prelude.{◌≡◌, ◌≤◌, ◌<◌, ◌+◌, ◌*◌, ◌^◌, ◌++◌, ◌∷◌, ◌||◌, ℕ, List, [], false, IfOk, OnOk, MatchOption, length};
 ghost use Rattle.pm_inventory.specs.Inventory.{SlotKey};
 ghost use Rattle.pm_history.specs.declared.entry.Side.{Side};
 ghost use Rattle.pm_history.specs.History.{History};
-ghost use Rattle.pm_history.specs.Terms.{Terms};
+ghost use Rattle.pm_history.specs.Terms.{Terms, reporting as reporting_of};
 ghost use Rattle.pm_history.specs.Standing.{Making};
 ghost use Rattle.pm_history.specs.Counted.{is_counted};
 ghost use Rattle.pm_history.specs.Files.{is_due};
@@ -17,6 +17,7 @@ use crate::measure::Measure;
 use crate::part::PartValues;
 use pm_meas::Cell;
 use std::alloc::{AllocError, Global};
+use std::mem::replace;
 
 /// What is kept of a job in its open reporting period, which begins with the tick `begin`.
 #[derive(Drop)]
@@ -28,6 +29,7 @@ pub struct OpenReport {
     // Whether some tick of a finished part is counted.
     counted: bool,
     marks: Marks,
+    ghost few: { earlier < 2 ^ 32 },
 }
 
 /// A report that ended: its parts after the earlier ones, and whether there is a file of it.
@@ -43,7 +45,7 @@ impl OpenReport {
     ghost use Rattle.pm_close.specs.Marks.{PeriodStands, MarksStand};
     ghost use Rattle.pm_close.specs.Values.{IsCovered, KnowsCells};
     ghost use Rattle.pm_close.specs.Parts.{AreWithin, ReadEach, quantities_of};
-    ghost use Rattle.pm_close.specs.Reports.{ReportStands, DueStands};
+    ghost use Rattle.pm_close.specs.Reports.{ReportStands, ReportReaches, DueStands};
 
     // A granularity period ended.
     fn add(&mut self, part: PartValues, is_some_counted: bool) -> Result<(), AllocError>
@@ -56,5 +58,62 @@ impl OpenReport {
         self.parts.push(part)?;
         self.counted = self.counted || is_some_counted;
         Ok(())
+    }
+
+    // One more tick is over, and with it maybe a granularity period.
+    fn end_part(
+        &mut self,
+        alloc: Global,
+        kept: &TickCells,
+        row: &[Cell],
+        measures: &[Measure],
+        granularity: u64,
+        mark: bool,
+    ) -> Result<(), AllocError>
+        requires few { granularity ≤ MOST_TICKS }
+        requires within { self.old.marks.count < granularity }
+        requires in_range { self.old.marks.begin + self.old.marks.count + 1 < 2 ^ 63 }
+        requires slots { AreWithin kept.now.slots measures.now }
+        requires wide { length row.now ≡ kept.now.slots }
+        requires small { AreSmall row.now }
+        requires covered { IsCovered kept.now self.old.marks }
+        requires ahead { kept.now.first ≤ self.old.marks.begin + self.old.marks.count }
+        ensures reaches { (terms : Side → List ℕ → Terms) (slots : List SlotKey) (h : History) (w : Making) (t : Terms) (tick : ℕ) (earlier : List PartValues)
+            → KnowsCells slots h kept.now row.now → ReadEach slots measures.now (quantities_of t.measured) → t.granularity ≡ granularity
+            → ReportStands terms h w t tick earlier self.old → mark ≡ is_counted terms h w tick
+            → OnOk result (ReportReaches terms h w t (tick + 1) earlier self.new) }
+        ensures covered { OnOk result (IsCovered kept.now self.new.marks) }
+        ensures within { OnOk result (self.new.marks.count < granularity) }
+        ensures on { OnOk result (self.new.marks.begin + self.new.marks.count ≡ self.old.marks.begin + self.old.marks.count + 1) }
+    {
+        if let Some(period) = self.marks.end_tick(granularity, mark) {
+            let part = PartValues::of(alloc, kept, row, measures, &period)?;
+            self.add(part, period.is_some_counted())?;
+        }
+        Ok(())
+    }
+
+    // The report, if its last part ended; then the next one begins.
+    fn take_due(&mut self, alloc: Global, parts: u64, reporting: u64) -> Option<Due>
+        requires in_range { self.old.begin + reporting < 2 ^ 63 }
+        ensures due { (terms : Side → List ℕ → Terms) (h : History) (w : Making) (t : Terms) (tick : ℕ) (earlier : List PartValues)
+            → t.parts ≡ parts → reporting_of t ≡ reporting → ReportReaches terms h w t tick earlier self.old
+            → MatchOption result
+                (ReportStands terms h w t tick earlier self.new × (is_due terms h w t tick ≡ false))
+                (λ due. ReportStands terms h w t tick [] self.new × DueStands terms h w t tick earlier due) }
+        ensures marks { self.new.marks ≡ self.old.marks }
+    {
+        if self.earlier + (self.parts.len() as u64) < parts {
+            return None;
+        }
+        let due = Due {
+            begin: self.begin,
+            parts: replace(&mut self.parts, Vec::new(alloc)),
+            counted: self.counted,
+        };
+        self.begin += reporting;
+        self.earlier = 0;
+        self.counted = false;
+        Some(due)
     }
 }
