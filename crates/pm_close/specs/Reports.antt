@@ -1,5 +1,5 @@
 -- The open reporting period of a job, and the report that is due where it ends.
-use Rattle.std.specs.Prelude.{ℕ, ◌+◌, ◌*◌, ◌<◌, ◌≤◌, ◌≡◌, Bool, false, List, [], ◌++◌, length, slice_index_or}
+use Rattle.std.specs.Prelude.{ℕ, ◌+◌, ◌*◌, ◌<◌, ◌≤◌, ◌≡◌, Bool, false, Option, Some, None, List, [], ◌++◌, length, slice_index_or}
 use Rattle.pm_history.specs.declared.entry.Side.{Side}
 use Rattle.pm_history.specs.History.{History}
 use Rattle.pm_history.specs.Terms.{Terms, reporting}
@@ -49,3 +49,8 @@ module _ (terms : Side → List ℕ → Terms) where
     pub whole : length (earlier ++ due.parts.items) ≡ t.parts
     pub parts : AreParts h w t due.begin (earlier ++ due.parts.items)
     pub counted : due.counted ≡ is_due terms h w t end
+
+  -- With a tick no report ends; or one does, as its due says, and the next one begins.
+  abbrev pub EndsTick : History → Making → Terms → ℕ → List PartValues → OpenReport → Option Due → Type 0
+  EndsTick h w t end earlier report None = ReportStands h w t end earlier report × (is_due terms h w t end ≡ false)
+  EndsTick h w t end earlier report (Some due) = ReportStands h w t end [] report × DueStands h w t end earlier due

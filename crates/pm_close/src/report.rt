@@ -1,13 +1,12 @@
 //! The open reporting period of a job.
 
-ghost use Rattle.std.specs.Prelude.{◌≡◌, ◌≤◌, ◌<◌, ◌+◌, ◌*◌, ◌^◌, ◌++◌, ◌∷◌, ◌||◌, ℕ, List, [], false, IfOk, OnOk, MatchOption, length};
+ghost use Rattle.std.specs.Prelude.{◌≡◌, ◌≤◌, ◌<◌, ◌+◌, ◌*◌, ◌^◌, ◌++◌, ◌∷◌, ◌||◌, ℕ, List, [], IfOk, OnOk, length};
 ghost use Rattle.pm_inventory.specs.Inventory.{SlotKey};
 ghost use Rattle.pm_history.specs.declared.entry.Side.{Side};
 ghost use Rattle.pm_history.specs.History.{History};
 ghost use Rattle.pm_history.specs.Terms.{Terms, reporting as reporting_of};
 ghost use Rattle.pm_history.specs.Standing.{Making};
 ghost use Rattle.pm_history.specs.Counted.{is_counted};
-ghost use Rattle.pm_history.specs.Files.{is_due};
 ghost use Rattle.pm_close.specs.declared.limits.TheConstants.{MOST_TICKS};
 
 use crate::cells::TickCells;
@@ -42,10 +41,43 @@ pub struct Due {
 
 impl OpenReport {
     ghost use Rattle.pm_close.specs.Rows.{AreSmall};
-    ghost use Rattle.pm_close.specs.Marks.{PeriodStands, MarksStand};
     ghost use Rattle.pm_close.specs.Values.{IsCovered, KnowsCells};
     ghost use Rattle.pm_close.specs.Parts.{AreWithin, ReadEach, quantities_of};
-    ghost use Rattle.pm_close.specs.Reports.{ReportStands, ReportReaches, DueStands};
+    ghost use Rattle.pm_close.specs.Reports.{ReportStands, ReportReaches, EndsTick};
+
+    /// One more tick is over, and counted or not. Answers the report that ends with it, if one does. `row` are the cells of
+    /// the tick that was open when what ends ticks came. Spent after an `Err`.
+    pub fn end_tick(
+        &mut self,
+        alloc: Global,
+        kept: &TickCells,
+        row: &[Cell],
+        measures: &[Measure],
+        granularity: u64,
+        parts: u64,
+        mark: bool,
+    ) -> Result<Option<Due>, AllocError>
+        requires few { granularity ≤ MOST_TICKS }
+        requires few_parts { parts < 2 ^ 32 }
+        requires within { self.old.marks.count < granularity }
+        requires in_range { self.old.marks.begin + self.old.marks.count + 1 < 2 ^ 63 }
+        requires report_in_range { self.old.begin + parts * granularity < 2 ^ 63 }
+        requires slots { AreWithin kept.now.slots measures.now }
+        requires wide { length row.now ≡ kept.now.slots }
+        requires small { AreSmall row.now }
+        requires covered { IsCovered kept.now self.old.marks }
+        requires ahead { kept.now.first ≤ self.old.marks.begin + self.old.marks.count }
+        ensures stands { (terms : Side → List ℕ → Terms) (slots : List SlotKey) (h : History) (w : Making) (t : Terms) (tick : ℕ) (earlier : List PartValues)
+            → KnowsCells slots h kept.now row.now → ReadEach slots measures.now (quantities_of t.measured) → t.granularity ≡ granularity → t.parts ≡ parts
+            → ReportStands terms h w t tick earlier self.old → mark ≡ is_counted terms h w tick
+            → IfOk result (EndsTick terms h w t (tick + 1) earlier self.new) }
+        ensures covered { OnOk result (IsCovered kept.now self.new.marks) }
+        ensures within { OnOk result (self.new.marks.count < granularity) }
+        ensures on { OnOk result (self.new.marks.begin + self.new.marks.count ≡ self.old.marks.begin + self.old.marks.count + 1) }
+    {
+        self.end_part(alloc, kept, row, measures, granularity, mark)?;
+        Ok(self.take_due(alloc, parts, parts * granularity))
+    }
 
     // A granularity period ended.
     fn add(&mut self, part: PartValues, is_some_counted: bool) -> Result<(), AllocError>
@@ -85,6 +117,7 @@ impl OpenReport {
         ensures covered { OnOk result (IsCovered kept.now self.new.marks) }
         ensures within { OnOk result (self.new.marks.count < granularity) }
         ensures on { OnOk result (self.new.marks.begin + self.new.marks.count ≡ self.old.marks.begin + self.old.marks.count + 1) }
+        ensures begin { OnOk result (self.new.begin ≡ self.old.begin) }
     {
         if let Some(period) = self.marks.end_tick(granularity, mark) {
             let part = PartValues::of(alloc, kept, row, measures, &period)?;
@@ -98,9 +131,7 @@ impl OpenReport {
         requires in_range { self.old.begin + reporting < 2 ^ 63 }
         ensures due { (terms : Side → List ℕ → Terms) (h : History) (w : Making) (t : Terms) (tick : ℕ) (earlier : List PartValues)
             → t.parts ≡ parts → reporting_of t ≡ reporting → ReportReaches terms h w t tick earlier self.old
-            → MatchOption result
-                (ReportStands terms h w t tick earlier self.new × (is_due terms h w t tick ≡ false))
-                (λ due. ReportStands terms h w t tick [] self.new × DueStands terms h w t tick earlier due) }
+            → EndsTick terms h w t tick earlier self.new result }
         ensures marks { self.new.marks ≡ self.old.marks }
     {
         if self.earlier + (self.parts.len() as u64) < parts {
