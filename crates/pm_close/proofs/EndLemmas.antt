@@ -18,7 +18,7 @@ use Rattle.pm_history.proofs.StayLemmas.{value_where-fails}
 use Rattle.pm_history.proofs.StepLemmas.{values_where-now, values_where-boot}
 use Rattle.pm_close.specs.Rows.{tick_cell, cells_in, blank, row_at, rows_of}
 
-map-const : {A B : Type 0} (f : A → B) (b : B) (xs : List A) → ((a : A) → f a ≡ b) → map f xs ≡ replicate (length xs) b
+pub map-const : {A B : Type 0} (f : A → B) (b : B) (xs : List A) → ((a : A) → f a ≡ b) → map f xs ≡ replicate (length xs) b
 map-const f b [] same = refl
 map-const f b (x ∷ xs) same = let rest = map-const f b xs same in λ i. same x i ∷ rest i
 

@@ -9,3 +9,5 @@ pub mod PeriodLemmas
 pub mod KnownLemmas
 pub mod PartLemmas
 pub mod ReportLemmas
+pub mod GapLemmas
+pub mod NullLemmas

@@ -1,16 +1,19 @@
 -- What stays, whatever comes next.
-use Rattle.std.specs.Prelude.{ℕ, ◌<◌, ◌≤◌, ◌≡◌, false, List}
+use Rattle.std.specs.Prelude.{ℕ, suc, ◌+◌, ◌*◌, ◌<◌, ◌≤◌, ◌≡◌, false, List, [], Some}
 use Rattle.pm_base.specs.Moment.{tick_of}
 use Rattle.pm_inventory.specs.Inventory.{SlotKey}
 use Rattle.pm_history.specs.declared.entry.Side.{Side}
+use Rattle.pm_history.specs.declared.entry.Side.TheVariants.{Job}
 use Rattle.pm_history.specs.declared.entry.Entry.{Entry}
 use Rattle.pm_history.specs.declared.entry.Entry.TheVariants.{Boot, Now}
 use Rattle.pm_meas.specs.declared.cell.Cell.{Cell}
 use Rattle.pm_history.specs.Entry.{moment_of}
-use Rattle.pm_history.specs.History.{History, ◌▷◌, IsHistory, size, last_moment}
-use Rattle.pm_history.specs.Terms.{Terms}
-use Rattle.pm_history.specs.Standing.{Making}
+use Rattle.pm_history.specs.History.{History, ◌▷◌, IsHistory, size, last_moment, before}
+use Rattle.pm_history.specs.Terms.{Terms, reporting}
+use Rattle.pm_history.specs.Ticks.{behind}
+use Rattle.pm_history.specs.Standing.{Making, Standing, standing_after}
 use Rattle.pm_history.specs.Counted.{is_counted}
+use Rattle.pm_history.specs.Files.{file_of, files_at}
 use Rattle.pm_close.specs.declared.cells.TickCells.{TickCells}
 use Rattle.pm_close.specs.declared.marks.Marks.{Marks}
 use Rattle.pm_close.specs.Cells.{CellsStand, AreOpen}
@@ -43,3 +46,23 @@ pub record CellsKnown : Type 0 where
       → IsHistory h → AreOpen slots h row → CellsStand slots h kept → KnowsCells slots (h ▷ Now m) kept row
   pub boot : (slots : List SlotKey) (h : History) (m : ℕ) (kept : TickCells) (row : List Cell)
       → IsHistory h → AreOpen slots h row → CellsStand slots h kept → KnowsCells slots (h ▷ Boot m) kept row
+
+-- Where there are no files: at an end at which each reporting period lies wholly in a stretch of ticks that aren't counted; so of the
+-- ends that come with a Boot, a job has a file at most at that of the reporting period that was open.
+pub record GapsHaveNoFiles : Type 0 where
+  pub stretch : (terms : Side → List ℕ → Terms) (h : History) (end a b : ℕ)
+      → ((w : Making) (t : ℕ) → a ≤ t → t < b → is_counted terms h w t ≡ false)
+      → ((id : List ℕ) (s : Standing) → standing_after terms Job (before (60 * end) h) id ≡ Some s → a + reporting (terms Job s.body) ≤ end)
+      → end ≤ b
+      → files_at terms h end ≡ []
+  pub item : (terms : Side → List ℕ → Terms) (h : History) (m : ℕ) (id : List ℕ) (end periods ends : ℕ) (s : Standing) → 0 < size h
+      → periods * reporting (terms Job s.body) ≤ tick_of (last_moment h)
+      → end ≡ ends * reporting (terms Job s.body) → suc (suc periods) ≤ ends
+      → tick_of (last_moment h) < suc periods * reporting (terms Job s.body)
+      → end ≤ tick_of m
+      → file_of terms (h ▷ Boot m) id end (Some s) ≡ []
+  pub all : (terms : Side → List ℕ → Terms) (h : History) (m late k : ℕ) → 0 < size h
+      → ((id : List ℕ) (s : Standing) (end : ℕ) → late < end → end ≤ late + k → standing_after terms Job (before (60 * end) (h ▷ Boot m)) id ≡ Some s
+        → tick_of (last_moment h) + reporting (terms Job s.body) ≤ end)
+      → late + k ≤ tick_of m
+      → behind (files_at terms (h ▷ Boot m)) late k ≡ []

@@ -1,5 +1,5 @@
 -- The values of one granularity period, in the order in which a report has them.
-use Rattle.std.specs.Prelude.{ℕ, ◌<◌, ◌≡◌, Bool, List, length, map, slice_index_or, Option, None}
+use Rattle.std.specs.Prelude.{ℕ, ◌<◌, ◌≡◌, Bool, true, List, length, map, replicate, slice_index_or, Option, None}
 use Rattle.std.specs.List.{flat_map}
 use Rattle.pm_meas.specs.declared.cell.Cell.{Cell}
 use Rattle.pm_meas.specs.declared.kind.Reduce.TheVariants.{Sum}
@@ -61,6 +61,15 @@ AreValues kept row measures period answers =
 -- The slots of measures are among so many.
 abbrev pub AreWithin : ℕ → List Measure → Type 0
 AreWithin slots measures = (k : ℕ) → k < length measures → (measure_at measures k).slot < slots
+
+-- A part is of so many nulls.
+pub record IsNull (values : ℕ) (part : PartValues) : Type 0 where
+  pub nulls : part.values.items ≡ replicate values None
+  pub suspect : part.suspect ≡ true
+
+-- Each part is.
+abbrev pub AreNull : ℕ → List PartValues → Type 0
+AreNull values parts = (k : ℕ) (d : PartValues) → k < length parts → IsNull values (slice_index_or parts k d)
 
 module _ (terms : Side → List ℕ → Terms) where
   -- The values of quantities over n ticks from the first on.

@@ -1,5 +1,5 @@
 //! What holds of kept cells and of marks over every history.
-ghost use Rattle.pm_close.specs.Laws.{BootCountsNone, CellsKnown, CellsStay, MarksStay};
+ghost use Rattle.pm_close.specs.Laws.{BootCountsNone, CellsKnown, CellsStay, GapsHaveNoFiles, MarksStay};
 
 /// An entry in the tick of the last moment leaves what is kept. A law: the call does nothing.
 pub fn cells_stay()
@@ -19,4 +19,9 @@ pub fn boot_counts_none()
 /// Kept cells and the cells of the open tick are those of all ticks that an entry ends. A law: the call does nothing.
 pub fn cells_known()
     ensures { CellsKnown }
+{}
+
+/// A reporting period that lies wholly in a gap has no file, so that a gap costs what is open. A law: the call does nothing.
+pub fn gaps_have_no_files()
+    ensures { GapsHaveNoFiles }
 {}

@@ -6,6 +6,7 @@ mod law;
 mod limits;
 mod marks;
 mod measure;
+mod nulls;
 mod part;
 mod report;
 mod row;
@@ -13,7 +14,7 @@ mod value;
 mod values;
 
 pub use cells::TickCells;
-pub use law::{boot_counts_none, cells_known, cells_stay, marks_stay};
+pub use law::{boot_counts_none, cells_known, cells_stay, gaps_have_no_files, marks_stay};
 pub use limits::{MOST_EVENTS, MOST_TICKS};
 pub use marks::{Marks, counts};
 pub use measure::Measure;

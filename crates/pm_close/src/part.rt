@@ -25,7 +25,7 @@ impl PartValues {
     ghost use Rattle.pm_close.specs.Rows.{AreSmall};
     ghost use Rattle.pm_close.specs.Marks.{PeriodStands};
     ghost use Rattle.pm_close.specs.Values.{IsCovered, KnowsCells};
-    ghost use Rattle.pm_close.specs.Parts.{AreWithin, IsPart, ReadEach, Quantity};
+    ghost use Rattle.pm_close.specs.Parts.{AreWithin, IsNull, IsPart, ReadEach, Quantity};
 
     /// The values of these measures over a granularity period that ends. `row` are the cells of the tick that was open.
     pub fn of(
@@ -46,5 +46,15 @@ impl PartValues {
         let values = values_of(alloc, kept, row, measures, period)?;
         let suspect = period.is_suspect();
         Ok(PartValues { values, suspect })
+    }
+
+    /// So many nulls, which are suspect: of a period in which no tick is counted.
+    pub fn null(alloc: Global, values: usize) -> Result<PartValues, AllocError>
+        ensures { IfOk result (IsNull values) }
+    {
+        Ok(PartValues {
+            values: vec![in alloc; None; values]?,
+            suspect: true,
+        })
     }
 }

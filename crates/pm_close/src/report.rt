@@ -1,6 +1,6 @@
 //! The open reporting period of a job.
 
-ghost use Rattle.std.specs.Prelude.{◌≡◌, ◌≤◌, ◌<◌, ◌+◌, ◌*◌, ◌^◌, ◌++◌, ◌∷◌, ◌||◌, ℕ, List, [], IfOk, OnOk, length};
+ghost use Rattle.std.specs.Prelude.{◌≡◌, ◌≤◌, ◌<◌, ◌+◌, ◌-◌, ◌*◌, ◌%◌, ◌^◌, false, ◌++◌, ◌∷◌, ◌||◌, ℕ, List, [], IfOk, OnOk, length};
 ghost use Rattle.pm_inventory.specs.Inventory.{SlotKey};
 ghost use Rattle.pm_history.specs.declared.entry.Side.{Side};
 ghost use Rattle.pm_history.specs.History.{History};
@@ -13,6 +13,7 @@ use crate::cells::TickCells;
 use crate::limits::MOST_TICKS;
 use crate::marks::Marks;
 use crate::measure::Measure;
+use crate::nulls::null_parts;
 use crate::part::PartValues;
 use pm_meas::Cell;
 use std::alloc::{AllocError, Global};
@@ -44,6 +45,36 @@ impl OpenReport {
     ghost use Rattle.pm_close.specs.Values.{IsCovered, KnowsCells};
     ghost use Rattle.pm_close.specs.Parts.{AreWithin, ReadEach, quantities_of};
     ghost use Rattle.pm_close.specs.Reports.{ReportStands, ReportReaches, EndsTick};
+
+    /// The open report of a job that was just made, or of any after a gap: no tick of its reporting period is counted. A
+    /// part has so many values.
+    pub fn unmarked(
+        alloc: Global,
+        values: usize,
+        granularity: u64,
+        parts: u64,
+        tick: u64,
+    ) -> Result<OpenReport, AllocError>
+        requires some_ticks { 0 < granularity }
+        requires few { granularity ≤ MOST_TICKS }
+        requires some_parts { 0 < parts }
+        requires few_parts { parts < 2 ^ 32 }
+        requires in_range { tick < 2 ^ 63 }
+        ensures stands { (terms : Side → List ℕ → Terms) (h : History) (w : Making) (t : Terms)
+            → t.granularity ≡ granularity → t.parts ≡ parts → length (quantities_of t.measured) ≡ values
+            → IfOk result (λ report. ((u : ℕ) → report.begin ≤ u → u < tick → is_counted terms h w u ≡ false) → ReportStands terms h w t tick [] report) }
+        ensures begin { IfOk result (λ report. report.begin ≡ tick - tick % (parts * granularity)) }
+    {
+        let within = tick % (parts * granularity);
+        let finished = within / granularity;
+        Ok(OpenReport {
+            begin: tick - within,
+            earlier: 0,
+            parts: null_parts(alloc, finished as usize, values)?,
+            counted: false,
+            marks: Marks::unmarked(granularity, tick),
+        })
+    }
 
     /// One more tick is over, and counted or not. Answers the report that ends with it, if one does. `row` are the cells of
     /// the tick that was open when what ends ticks came. Spent after an `Err`.
