@@ -64,17 +64,17 @@ module _ (terms : Side → List ℕ → Terms) where
       let wide = mul-le (suc (suc periods)) r ends r further (omega arith) in
       let one_more = suc-mul (suc periods) r in
       file_of-gap (h ▷ Boot m) id end (tick_of (last_moment h)) (tick_of m) s
-          (λ t from lt. is_counted-boot terms h m (making_of Job id s) t some from lt)
-          (omega arith) to
+      (λ t from lt. is_counted-boot terms h m (making_of Job id s) t some from lt)
+      (omega arith) to
 
   -- a whole stretch of ends that come with a Boot, once each standing reporting period has passed
   pub files-boot : (h : History) (m late k : ℕ) → 0 < size h
       → ((id : List ℕ) (s : Standing) (end : ℕ) → late < end → end ≤ late + k → standing_after terms Job (before (60 * end) (h ▷ Boot m)) id ≡ Some s
-        → tick_of (last_moment h) + reporting (terms Job s.body) ≤ end)
+      → tick_of (last_moment h) + reporting (terms Job s.body) ≤ end)
       → late + k ≤ tick_of m
       → behind (files_at terms (h ▷ Boot m)) late k ≡ []
   files-boot h m late k some wide to =
       behind-none (files_at terms (h ▷ Boot m)) late k (λ end lt le.
       files_at-gap (h ▷ Boot m) end (tick_of (last_moment h)) (tick_of m)
-          (λ w t from before_it. is_counted-boot terms h m w t some from before_it)
-          (λ id s is. wide id s end lt le is) (omega arith))
+      (λ w t from before_it. is_counted-boot terms h m w t some from before_it)
+      (λ id s is. wide id s end lt le is) (omega arith))

@@ -104,17 +104,17 @@ value_by-period kept row slot period reduce cell some answer terms slots h w key
     let wide = knows.wide in
     let whole = stand.whole in
     value_by-marks terms h w key.object metric period.begin granularity (mark_at period) (λ k. known_cell kept row slot (period.begin + k)) reduce cell some answer
-        (λ k lt. stand.counted k (omega (arith, lt, whole)))
-        (λ k lt counted.
-        let marked : mark_at period k ≡ true = stand.counted k (omega (arith, lt, whole)) ∙ counted in
-        let from : kept.first ≤ period.begin + k =
-        elim (cases_lt (period.begin + k) kept.first) [
-          | inl before ↦ absurd (let none = covered k (omega (arith, lt, whole)) before in cc)
-          | inr le ↦ le
-        ] in
-        knows.known slot (period.begin + k) key (omega (arith, in_row, wide)) at from (counted-uncut terms h w (period.begin + k) counted)
-        ∙ ap (λ n. fold_in h key.object n (period.begin + k)) (sym number))
-        (sym same)
-        (some_is ∙ ap (λ n. at_some n (mark_at period)) whole)
-        (cell_is ∙ ap (merged_where (mark_at period) (λ k. known_cell kept row slot (period.begin + k)) 0) whole)
-        reads
+    (λ k lt. stand.counted k (omega (arith, lt, whole)))
+    (λ k lt counted.
+    let marked : mark_at period k ≡ true = stand.counted k (omega (arith, lt, whole)) ∙ counted in
+    let from : kept.first ≤ period.begin + k =
+    elim (cases_lt (period.begin + k) kept.first) [
+      | inl before ↦ absurd (let none = covered k (omega (arith, lt, whole)) before in cc)
+      | inr le ↦ le
+    ] in
+    knows.known slot (period.begin + k) key (omega (arith, in_row, wide)) at from (counted-uncut terms h w (period.begin + k) counted)
+    ∙ ap (λ n. fold_in h key.object n (period.begin + k)) (sym number))
+    (sym same)
+    (some_is ∙ ap (λ n. at_some n (mark_at period)) whole)
+    (cell_is ∙ ap (merged_where (mark_at period) (λ k. known_cell kept row slot (period.begin + k)) 0) whole)
+    reads

@@ -11,3 +11,4 @@ pub mod PartLemmas
 pub mod ReportLemmas
 pub mod GapLemmas
 pub mod NullLemmas
+pub mod FileLemmas

@@ -94,8 +94,8 @@ module _ (terms : Side → List ℕ → Terms) (h : History) (w : Making) where
             let one_more = suc-mul k g in
             let inside = mul-le (suc k) g finished g (omega (arith, lt, long)) (omega arith) in
             null-part (quantities_of t.measured) (report.begin + k * g) g (slice_index_or report.parts.items k d) some_ticks
-                (λ u from to. none u (omega (arith, from)) (omega (arith, to, one_more, inside, at, reach)))
-                (nulls k d lt);
+            (λ u from to. none u (omega (arith, from)) (omega (arith, to, one_more, inside, at, reach)))
+            (nulls k d lt);
         counted =
             counted_is
             ∙ sym (some_counted-none terms h w report.begin (length report.parts.items * g)

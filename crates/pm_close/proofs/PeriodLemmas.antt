@@ -44,7 +44,7 @@ module _ (terms : Side → List ℕ → Terms) where
       let begun : (k : ℕ) → 0 + k ≡ k = λ k. omega arith in
       let cell_counted : cell ≡ cell_of (counted_values terms h w o m.number first n) =
       cell_is ∙ (merged_where-same marked (is_counted terms h w) cells (fold_in h o m.number) 0 first n
-          (λ k lt. ap marked (begun k) ∙ marks k lt) (λ k lt counted. ap cells (begun k) ∙ stand k lt counted)
+      (λ k lt. ap marked (begun k) ∙ marks k lt) (λ k lt counted. ap cells (begun k) ∙ stand k lt counted)
       ∙ sym (counted_cell terms h w o m.number first n)) in
       let some_counted_is = some_is ∙ at_some-same n marked (λ k. is_counted terms h w (first + k)) marks in
       let answer_is = reads (counted_values terms h w o m.number first n) cell_counted ∙ ap (λ r. reduced r (counted_values terms h w o m.number first n)) same in

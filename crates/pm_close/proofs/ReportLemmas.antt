@@ -124,11 +124,12 @@ module _ (terms : Side → List ℕ → Terms) (h : History) (w : Making) where
       let rest : tick % r ≡ 0 = ap (λ k. k % r) tick_is ∙ mul-mod_left (suc reaches.reports) r in
       let room : leb r tick ≡ true = le-leb r tick (omega (arith, ends)) in
       let zero_rest : eqb (tick % r) 0 ≡ true = eq-eqb (tick % r) 0 rest in
-      let back : report.begin ≡ tick - r = omega (arith, ends) in
-      (ends,
-      reaches.counted
-      ∙ ((λ i. some_counted terms h w (back i) (product i))
-      ∙ (λ i. sym room i && sym zero_rest i && some_counted terms h w (tick - r) r)))
+      let back : report.begin ≡ tick - r = omega (arith, ends) in (
+        ends,
+        reaches.counted
+            ∙ ((λ i. some_counted terms h w (back i) (product i))
+            ∙ (λ i. sym room i && sym zero_rest i && some_counted terms h w (tick - r) r)),
+      )
 
   -- where a report doesn't end, it stands
   pub reaches-stands : (t : Terms) (tick : ℕ) (earlier : List PartValues) (report : OpenReport)
@@ -147,7 +148,7 @@ module _ (terms : Side → List ℕ → Terms) (h : History) (w : Making) where
   -- the next one begins without parts
   pub next-stands : (t : Terms) (tick : ℕ) (earlier : List PartValues) (old new : OpenReport)
       → length (earlier ++ old.parts.items) ≡ t.parts
-      → new.begin ≡ old.begin + reporting t → new.earlier ≡ 0 → new.parts.items ≡ [] → new.counted ≡ false → new.marks ≡ old.marks
+      → new.begin ≡ old.marks.begin → new.earlier ≡ 0 → new.parts.items ≡ [] → new.counted ≡ false → new.marks ≡ old.marks
       → ReportReaches terms h w t tick earlier old → ReportStands terms h w t tick [] new
   next-stands t tick earlier old new whole begin_is earlier_is parts_are counted_is marks_are reaches =
       let begins = reaches.begins in
@@ -162,7 +163,7 @@ module _ (terms : Side → List ℕ → Terms) (h : History) (w : Making) where
       let marks_begin : new.marks.begin ≡ old.marks.begin = ap (λ (m : Marks). m.begin) marks_are in
       record {
         reports = suc reaches.reports;
-        begins = omega (arith, begin_is, begins, multiple);
+        begins = omega (arith, begin_is, begins, at, product, multiple);
         earlier_are = earlier_is;
         marks = subst (MarksStand terms h w t.granularity tick) (sym marks_are) reaches.marks;
         at = omega (arith, marks_begin, at, product, begin_is, no_ticks);

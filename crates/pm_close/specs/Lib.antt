@@ -4,4 +4,5 @@ pub mod Marks
 pub mod Values
 pub mod Parts
 pub mod Reports
+pub mod Files
 pub mod Laws

@@ -109,6 +109,13 @@ impl TickCells {
         self.first
     }
 
+    /// The tick after the last one of which cells are kept.
+    pub fn end(&self) -> u64
+        ensures { result ≡ self.now.first + self.now.ticks }
+    {
+        self.first + self.ticks
+    }
+
     /// The cell of a slot in a tick: that of `row` in the tick after the kept ones, and one without values in all others.
     pub fn known(&self, row: &[Cell], slot: usize, tick: u64) -> Cell
         requires slot { slot < self.now.slots }

@@ -1,5 +1,5 @@
 //! What holds of kept cells and of marks over every history.
-ghost use Rattle.pm_close.specs.Laws.{BootCountsNone, CellsKnown, CellsStay, GapsHaveNoFiles, MarksStay};
+ghost use Rattle.pm_close.specs.Laws.{BootCountsNone, CellsKnown, CellsStay, DueIsFile, GapsHaveNoFiles, MarksStay, ReportsStay};
 
 /// An entry in the tick of the last moment leaves what is kept. A law: the call does nothing.
 pub fn cells_stay()
@@ -24,4 +24,14 @@ pub fn cells_known()
 /// A reporting period that lies wholly in a gap has no file, so that a gap costs what is open. A law: the call does nothing.
 pub fn gaps_have_no_files()
     ensures { GapsHaveNoFiles }
+{}
+
+/// An entry leaves what is kept of a job up to a tick. A law: the call does nothing.
+pub fn reports_stay()
+    ensures { ReportsStay }
+{}
+
+/// The parts of a report that is due make the file of its reporting period. A law: the call does nothing.
+pub fn due_is_file()
+    ensures { DueIsFile }
 {}

@@ -35,6 +35,9 @@ impl Marks {
         ensures stands { (terms : Side → List ℕ → Terms) (h : History) (w : Making)
             → ((t : ℕ) → result.begin ≤ t → t < tick → is_counted terms h w t ≡ false) → MarksStand terms h w granularity tick result }
         ensures begin { result.begin ≡ tick - tick % granularity }
+        ensures reach { result.begin + result.count ≡ tick }
+        ensures within { result.count < granularity }
+        ensures none { (k : ℕ) → mark_at result k ≡ false }
     {
         let count = tick % granularity;
         Marks {

@@ -4,7 +4,7 @@ ghost use Rattle.std.specs.Prelude.{◌≡◌, ◌≤◌, ◌<◌, ◌+◌, ◌-
 ghost use Rattle.pm_inventory.specs.Inventory.{SlotKey};
 ghost use Rattle.pm_history.specs.declared.entry.Side.{Side};
 ghost use Rattle.pm_history.specs.History.{History};
-ghost use Rattle.pm_history.specs.Terms.{Terms, reporting as reporting_of};
+ghost use Rattle.pm_history.specs.Terms.{Terms};
 ghost use Rattle.pm_history.specs.Standing.{Making};
 ghost use Rattle.pm_history.specs.Counted.{is_counted};
 ghost use Rattle.pm_close.specs.declared.limits.TheConstants.{MOST_TICKS};
@@ -42,6 +42,7 @@ pub struct Due {
 
 impl OpenReport {
     ghost use Rattle.pm_close.specs.Rows.{AreSmall};
+    ghost use Rattle.pm_close.specs.Marks.{mark_at};
     ghost use Rattle.pm_close.specs.Values.{IsCovered, KnowsCells};
     ghost use Rattle.pm_close.specs.Parts.{AreWithin, ReadEach, quantities_of};
     ghost use Rattle.pm_close.specs.Reports.{ReportStands, ReportReaches, EndsTick};
@@ -64,6 +65,9 @@ impl OpenReport {
             → t.granularity ≡ granularity → t.parts ≡ parts → length (quantities_of t.measured) ≡ values
             → IfOk result (λ report. ((u : ℕ) → report.begin ≤ u → u < tick → is_counted terms h w u ≡ false) → ReportStands terms h w t tick [] report) }
         ensures begin { IfOk result (λ report. report.begin ≡ tick - tick % (parts * granularity)) }
+        ensures reach { IfOk result (λ report. report.marks.begin + report.marks.count ≡ tick) }
+        ensures within { IfOk result (λ report. report.marks.count < granularity) }
+        ensures none { IfOk result (λ report. (k : ℕ) → mark_at report.marks k ≡ false) }
     {
         let within = tick % (parts * granularity);
         let finished = within / granularity;
@@ -74,6 +78,13 @@ impl OpenReport {
             counted: false,
             marks: Marks::unmarked(granularity, tick),
         })
+    }
+
+    /// The marks of the open granularity period.
+    pub fn marks(&self) -> &Marks
+        ensures { result.now ≡ self.now.marks }
+    {
+        &self.marks
     }
 
     /// One more tick is over, and counted or not. Answers the report that ends with it, if one does. `row` are the cells of
@@ -89,10 +100,8 @@ impl OpenReport {
         mark: bool,
     ) -> Result<Option<Due>, AllocError>
         requires few { granularity ≤ MOST_TICKS }
-        requires few_parts { parts < 2 ^ 32 }
         requires within { self.old.marks.count < granularity }
         requires in_range { self.old.marks.begin + self.old.marks.count + 1 < 2 ^ 63 }
-        requires report_in_range { self.old.begin + parts * granularity < 2 ^ 63 }
         requires slots { AreWithin kept.now.slots measures.now }
         requires wide { length row.now ≡ kept.now.slots }
         requires small { AreSmall row.now }
@@ -107,7 +116,7 @@ impl OpenReport {
         ensures on { OnOk result (self.new.marks.begin + self.new.marks.count ≡ self.old.marks.begin + self.old.marks.count + 1) }
     {
         self.end_part(alloc, kept, row, measures, granularity, mark)?;
-        Ok(self.take_due(alloc, parts, parts * granularity))
+        Ok(self.take_due(alloc, parts))
     }
 
     // A granularity period ended.
@@ -158,10 +167,9 @@ impl OpenReport {
     }
 
     // The report, if its last part ended; then the next one begins.
-    fn take_due(&mut self, alloc: Global, parts: u64, reporting: u64) -> Option<Due>
-        requires in_range { self.old.begin + reporting < 2 ^ 63 }
+    fn take_due(&mut self, alloc: Global, parts: u64) -> Option<Due>
         ensures due { (terms : Side → List ℕ → Terms) (h : History) (w : Making) (t : Terms) (tick : ℕ) (earlier : List PartValues)
-            → t.parts ≡ parts → reporting_of t ≡ reporting → ReportReaches terms h w t tick earlier self.old
+            → t.parts ≡ parts → ReportReaches terms h w t tick earlier self.old
             → EndsTick terms h w t tick earlier self.new result }
         ensures marks { self.new.marks ≡ self.old.marks }
     {
@@ -173,7 +181,7 @@ impl OpenReport {
             parts: replace(&mut self.parts, Vec::new(alloc)),
             counted: self.counted,
         };
-        self.begin += reporting;
+        self.begin = self.marks.begin();
         self.earlier = 0;
         self.counted = false;
         Some(due)

@@ -1,8 +1,10 @@
 //! Cells in a vector that has room for them.
-ghost use Rattle.std.specs.Prelude.{◌≡◌, ◌≤◌, ◌+◌, ◌++◌, [], length, drop, replicate, vec_len, vec_capacity};
+ghost use Rattle.std.specs.Prelude.{◌≡◌, ◌≤◌, ◌+◌, ◌++◌, ◌↔◌, [], IsTrue, length, drop, replicate, vec_capacity};
+ghost use Rattle.pm_close.specs.Rows.{IsSmall, AreSmall};
 ghost use Rattle.pm_meas.specs.Cell.{cell_of};
 
-use pm_meas::Cell;
+use crate::limits::MOST_EVENTS;
+use pm_meas::{Cell, MAX_VALUE};
 
 // Adds a row at the end.
 pub fn append(cells: &mut Vec<Cell>, row: &[Cell])
@@ -36,4 +38,17 @@ pub fn forget_front(cells: &mut Vec<Cell>, gone: usize)
     ensures room { vec_capacity cells.new ≡ vec_capacity cells.old }
 {
     drop(cells.drain(..gone));
+}
+
+/// Whether these are cells of one tick: each has so few events, and a sum that they can have.
+pub fn are_small(cells: &[Cell]) -> bool
+    ensures { IsTrue result ↔ AreSmall cells.now }
+{
+    cells.iter().all(is_small)
+}
+
+fn is_small(cell: &Cell) -> bool
+    ensures { IsTrue result ↔ IsSmall cell.now }
+{
+    cell.n <= MOST_EVENTS && cell.sum <= cell.n * u64::from(MAX_VALUE)
 }

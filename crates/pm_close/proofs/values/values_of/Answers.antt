@@ -15,5 +15,5 @@ loop-k-preserved c =
       each =
           subst (AreValues c.args.kept.now c.args.row.now c.args.measures.now c.args.period.now) (sym pushed.items)
           (AreValues-more c.args.kept.now c.args.row.now c.args.measures.now c.args.period.now c.loop-k.values.items c.period_value.result c.loop-k.k
-              before.as_many c.period_value.ensures before.each);
+          before.as_many c.period_value.ensures before.each);
     }

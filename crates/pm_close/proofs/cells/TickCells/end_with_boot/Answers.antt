@@ -13,4 +13,4 @@ returns-clause-stands c =
     let from = c.requires.from in
     let ahead = kept.reach in
     stand-boot slots h m c.args.from _ c.forget_before.new.self c.add_blank.new.self is later
-        (omega (arith, reach, now, from, ahead, at)) added.slots added.first added.ticks added.cells kept
+    (omega (arith, reach, now, from, ahead, at)) added.slots added.first added.ticks added.cells kept

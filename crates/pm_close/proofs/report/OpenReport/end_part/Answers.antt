@@ -16,15 +16,15 @@ returns-in_ok-add-clause-reaches c =
     let whole = ended.period terms h w tick before mark in
     let after = subst (λ g. MarksStand terms h w g (tick + 1) c.end_tick.new.self) (sym same) (ended.stands terms h w tick before mark) in
     let part = subst (λ g. IsPart terms h w (quantities_of t.measured) period.begin g c.in_ok-part.part) (sym same)
-        (c.in_ok-part.ensures terms slots h w (quantities_of t.measured) c.args.granularity (tick + 1) knows reads whole) in
+    (c.in_ok-part.ensures terms slots h w (quantities_of t.measured) c.args.granularity (tick + 1) knows reads whole) in
     let marks = added.marks in
     let next = ended.next refl in
     reaches-part terms h w t tick earlier c.args.self.now c.add.new.self period c.in_ok-part.part c.is_some_counted.result
-        ended.marks.begin
-        (ap (λ (m : Marks). m.begin) marks ∙ (next.0 ∙ ap (λ g. c.args.self.now.marks.begin + g) (sym same)))
-        (ap (λ (m : Marks). m.count) marks ∙ next.1)
-        added.begin added.earlier added.parts added.counted
-        (subst (MarksStand terms h w t.granularity (tick + 1)) (sym marks) after)
-        part
-        (c.is_some_counted.ensures.counted terms h w whole.counted ∙ ap (some_counted terms h w period.begin) (whole.whole ∙ sym same))
-        stand
+    ended.marks.begin
+    (ap (λ (m : Marks). m.begin) marks ∙ (next.0 ∙ ap (λ g. c.args.self.now.marks.begin + g) (sym same)))
+    (ap (λ (m : Marks). m.count) marks ∙ next.1)
+    added.begin added.earlier added.parts added.counted
+    (subst (MarksStand terms h w t.granularity (tick + 1)) (sym marks) after)
+    part
+    (c.is_some_counted.ensures.counted terms h w whole.counted ∙ ap (some_counted terms h w period.begin) (whole.whole ∙ sym same))
+    stand
