@@ -1,22 +1,21 @@
 -- What rows become once an entry joins a history: those of ticks that are over stay; a Now ends the open tick with its cells, and
 -- what it ends besides, as all that a Boot ends, has no value.
-use Rattle.std.proofs.Common.{◌≡◌, ℕ, suc, ◌+◌, ◌*◌, ◌<◌, ◌≤◌, Bool, true, false, cond, eqb, List, [], ◌∷◌, ◌++◌, map, length, replicate, refl, sym, ap, ◌∙◌, arith, le-leb}
+use Rattle.std.proofs.Common.{◌≡◌, ℕ, ◌<◌, ◌≤◌, Bool, true, false, cond, eqb, List, [], ◌∷◌, ◌++◌, map, length, replicate, refl, ap, ◌∙◌, arith, le-leb}
 use Rattle.std.proofs.lemmas.Bool.{cond-true, cond-false, ne_eqb, or_right, and_from}
 use Rattle.std.proofs.lemmas.List.{append-nil}
 use Rattle.pm_base.specs.Moment.{tick_of}
-use Rattle.pm_meas.specs.declared.cell.Cell.{Cell}
 use Rattle.pm_meas.specs.Cell.{cell_of}
 use Rattle.pm_inventory.specs.Inventory.{SlotKey}
 use Rattle.pm_history.specs.declared.entry.Entry.{Entry}
 use Rattle.pm_history.specs.declared.entry.Entry.TheVariants.{Boot, Now}
 use Rattle.pm_history.specs.Entry.{moment_of}
-use Rattle.pm_history.specs.History.{History, Start, ◌▷◌, size, last_moment, IsHistory, is_cut}
+use Rattle.pm_history.specs.History.{History, Start, ◌▷◌, last_moment, IsHistory, is_cut}
 use Rattle.pm_history.specs.Value.{values_where}
 use Rattle.pm_history.proofs.TickLemmas.{or_false}
 use Rattle.pm_history.proofs.HistoryLemmas.{is_cut-stays, is_cut-past}
 use Rattle.pm_history.proofs.StayLemmas.{value_where-fails}
 use Rattle.pm_history.proofs.StepLemmas.{values_where-now, values_where-boot}
-use Rattle.pm_close.specs.Rows.{tick_cell, cells_in, blank, row_at, rows_of}
+use Rattle.pm_close.specs.Rows.{tick_cell, cells_in, blank, row_at}
 
 pub map-const : {A B : Type 0} (f : A → B) (b : B) (xs : List A) → ((a : A) → f a ≡ b) → map f xs ≡ replicate (length xs) b
 map-const f b [] same = refl

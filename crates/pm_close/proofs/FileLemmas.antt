@@ -1,5 +1,5 @@
 -- The report of a definition from the values of its parts.
-use Rattle.std.proofs.Common.{◌≡◌, ℕ, zero, suc, ◌+◌, ◌-◌, ◌*◌, ◌<◌, ◌≤◌, Bool, true, false, cond, List, [], ◌∷◌, ◌++◌, length, map, take, drop, slice_index_or, Option, Some, refl, sym, ap, subst, ◌∙◌, arith, suc-mul, append_assoc}
+use Rattle.std.proofs.Common.{◌≡◌, ℕ, zero, suc, ◌+◌, ◌-◌, ◌*◌, Bool, cond, List, [], ◌∷◌, ◌++◌, length, map, take, drop, slice_index_or, Option, Some, refl, sym, ap, subst, ◌∙◌, arith, suc-mul, append_assoc}
 use Rattle.std.specs.List.{flat_map}
 use Rattle.std.proofs.lemmas.List.{length-map, map-append}
 use Rattle.std.proofs.Math.Seq.{take-append_seam, drop-append_seam}
@@ -10,12 +10,12 @@ use Rattle.pm_history.specs.History.{History}
 use Rattle.pm_history.specs.Terms.{Terms, Measured, reporting}
 use Rattle.pm_history.specs.Standing.{Making, Standing, making_of}
 use Rattle.pm_history.specs.Value.{measured_value, is_suspect}
-use Rattle.pm_history.specs.Files.{Row, Group, Part, Report, row_of, group_of, part_of, parts_of, report_of, is_due, file_of}
+use Rattle.pm_history.specs.Files.{Row, group_of, part_of, parts_of, report_of, file_of}
 use Rattle.pm_close.specs.declared.part.PartValues.{PartValues}
 use Rattle.pm_close.specs.declared.report.Due.{Due}
 use Rattle.pm_close.specs.Parts.{Quantity, quantities_on, quantities_in, quantities_of, IsPart, values_over}
 use Rattle.pm_close.specs.Reports.{AreParts, DueStands}
-use Rattle.pm_close.specs.Files.{rows_with, group_with, groups_with, part_with, parts_with, report_with}
+use Rattle.pm_close.specs.Files.{rows_with, groups_with, part_with, parts_with, report_with}
 
 map-map : {A B C : Type 0} (g : B → C) (f : A → B) (xs : List A) → map g (map f xs) ≡ map (λ x. g (f x)) xs
 map-map g f [] = refl

@@ -1,8 +1,7 @@
 -- What is known of the ticks of a period that ends with a Now or a Boot, and so its values.
-use Rattle.std.proofs.Common.{◌≡◌, ◌≢◌, ℕ, ◌+◌, ◌-◌, ◌*◌, ◌<◌, ◌≤◌, Bool, true, false, ◌||◌, cond, ltb, eqb, List, [], length, map, get_or, slice_index_or, Option, None, refl, sym, ap, subst, ◌∙◌, arith, inl, inr, lt-ltb, le-ltb}
+use Rattle.std.proofs.Common.{◌≡◌, ◌≢◌, ℕ, ◌+◌, ◌-◌, ◌<◌, ◌≤◌, Bool, true, false, cond, List, [], length, get_or, slice_index_or, Option, None, sym, ap, ◌∙◌, arith, inl, inr, lt-ltb, le-ltb}
 use Rattle.std.proofs.lemmas.Bool.{cond-true, cond-false, cases_lt, cases_order, ne_eqb, eq-eqb, or_parts}
 use Rattle.std.proofs.lemmas.List.{get_or-map}
-use Rattle.pm_base.specs.Moment.{tick_of}
 use Rattle.pm_meas.specs.declared.cell.Cell.{Cell}
 use Rattle.pm_meas.specs.declared.kind.Reduce.{Reduce}
 use Rattle.pm_meas.specs.Cell.{cell_of, reduced}
@@ -10,11 +9,10 @@ use Rattle.pm_inventory.specs.Inventory.{SlotKey}
 use Rattle.pm_history.specs.declared.entry.Side.{Side}
 use Rattle.pm_history.specs.declared.entry.Entry.TheVariants.{Boot, Now}
 use Rattle.pm_history.specs.declared.metric.Metric.{Metric}
-use Rattle.pm_history.specs.History.{History, ◌▷◌, last_moment, IsHistory, is_cut, cuts}
+use Rattle.pm_history.specs.History.{History, ◌▷◌, IsHistory, is_cut, cuts}
 use Rattle.pm_history.specs.Terms.{Terms}
 use Rattle.pm_history.specs.Ticks.{at_some}
 use Rattle.pm_history.specs.Standing.{Making}
-use Rattle.pm_history.specs.Counted.{is_counted}
 use Rattle.pm_history.specs.Value.{measured_value}
 use Rattle.pm_close.specs.declared.cells.TickCells.{TickCells}
 use Rattle.pm_close.specs.declared.marks.Marks.{Marks}

@@ -1,11 +1,9 @@
 -- A period's value is what the merge of the cells of its counted ticks reads.
-use Rattle.std.proofs.Common.{◌≡◌, ℕ, zero, suc, ◌+◌, ◌<◌, ◌≤◌, Bool, true, false, ◌&&◌, ◌||◌, cond, ltb, leb, eqb, List, [], ◌∷◌, length, sum, max, min, Option, Some, None, refl, sym, ap, ◌∙◌, arith, inl, inr, lt-ltb, le-ltb, le-leb}
+use Rattle.std.proofs.Common.{◌≡◌, ℕ, zero, suc, ◌+◌, ◌<◌, ◌≤◌, Bool, true, false, ◌&&◌, ◌||◌, cond, ltb, leb, eqb, List, [], ◌∷◌, length, sum, max, min, Option, None, refl, sym, ap, ◌∙◌, arith, inl, inr, lt-ltb, le-ltb, le-leb}
 use Rattle.std.proofs.lemmas.Bool.{cond-true, cond-false, lt-leb, ne_eqb, and_left, and_right, ltb-true, eqb-true, and_parts, cases_lt, cases_order, eq-eqb}
 use Rattle.pm_base.specs.Moment.{tick_of}
 use Rattle.pm_meas.specs.declared.cell.Cell.{Cell}
-use Rattle.pm_meas.specs.declared.kind.Reduce.{Reduce}
-use Rattle.pm_meas.specs.declared.kind.Reduce.TheVariants.{Sum, Mean, Max, Min}
-use Rattle.pm_meas.specs.Cell.{greatest, least, lowest, cell_of, merged, reduced, reading}
+use Rattle.pm_meas.specs.Cell.{greatest, lowest, cell_of, merged, reduced}
 use Rattle.pm_meas.proofs.CellLemmas.{cell_of-append, least-at_most}
 use Rattle.pm_history.specs.declared.entry.Side.{Side}
 use Rattle.pm_history.specs.declared.entry.Entry.{Entry}

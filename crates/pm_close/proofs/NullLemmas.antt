@@ -1,5 +1,5 @@
 -- Parts of nulls: of periods in which no tick is counted.
-use Rattle.std.proofs.Common.{◌≡◌, ℕ, zero, suc, ◌+◌, ◌-◌, ◌*◌, ◌/◌, ◌%◌, ◌<◌, ◌≤◌, Bool, true, false, not, List, [], ◌∷◌, ◌++◌, length, map, get_or, slice_index_or, replicate, Option, None, refl, sym, ap, subst, ◌∙◌, arith, inl, inr, suc-mul}
+use Rattle.std.proofs.Common.{◌≡◌, ℕ, zero, suc, ◌+◌, ◌-◌, ◌*◌, ◌/◌, ◌%◌, ◌<◌, ◌≤◌, true, false, not, List, [], ◌∷◌, ◌++◌, length, slice_index_or, None, sym, ap, subst, ◌∙◌, arith, inl, inr, suc-mul}
 use Rattle.std.proofs.lemmas.Bool.{cases_lt, and_right}
 use Rattle.std.proofs.lemmas.Nat.{mul-le, div-add-mod'}
 use Rattle.std.proofs.lemmas.List.{get_or_append_left, get_or_push, length-append}
@@ -8,14 +8,13 @@ use Rattle.pm_history.specs.declared.entry.Side.{Side}
 use Rattle.pm_history.specs.History.{History}
 use Rattle.pm_history.specs.Terms.{Terms, reporting}
 use Rattle.pm_history.specs.Standing.{Making}
-use Rattle.pm_history.specs.Counted.{is_counted, some_counted, all_counted}
+use Rattle.pm_history.specs.Counted.{is_counted, all_counted}
 use Rattle.pm_history.specs.Value.{measured_value}
-use Rattle.pm_close.specs.declared.marks.Marks.{Marks}
 use Rattle.pm_close.specs.declared.part.PartValues.{PartValues}
 use Rattle.pm_close.specs.declared.report.OpenReport.{OpenReport}
 use Rattle.pm_close.specs.Marks.{MarksStand}
 use Rattle.pm_close.specs.Parts.{Quantity, quantities_of, IsNull, AreNull, IsPart}
-use Rattle.pm_close.specs.Reports.{AreParts, ReportStands}
+use Rattle.pm_close.specs.Reports.{ReportStands}
 use Rattle.pm_close.proofs.EndLemmas.{map-const}
 use Rattle.pm_close.proofs.MergeLemmas.{measured_none}
 use Rattle.pm_close.proofs.GapLemmas.{some_counted-none}

@@ -1,9 +1,8 @@
 -- From what is known of the ticks of a period to its value.
-use Rattle.std.proofs.Common.{◌≡◌, ℕ, zero, suc, ◌+◌, ◌<◌, ◌≤◌, Bool, true, false, ◌&&◌, not, cond, List, [], ◌∷◌, length, get_or, slice_index_or, Option, None, refl, sym, ap, ◌∙◌, arith, inl, inr}
+use Rattle.std.proofs.Common.{◌≡◌, ℕ, zero, suc, ◌+◌, ◌<◌, Bool, true, false, ◌&&◌, not, cond, List, Option, None, refl, sym, ap, ◌∙◌, arith}
 use Rattle.pm_meas.specs.declared.cell.Cell.{Cell}
 use Rattle.pm_meas.specs.declared.kind.Reduce.{Reduce}
 use Rattle.pm_meas.specs.Cell.{cell_of, merged, reduced}
-use Rattle.pm_inventory.specs.Inventory.{SlotKey}
 use Rattle.pm_history.specs.declared.entry.Side.{Side}
 use Rattle.pm_history.specs.History.{History, is_cut, is_over}
 use Rattle.pm_history.specs.Terms.{Terms}

@@ -1,5 +1,5 @@
 -- The open report of a job as granularity periods end, and the report where its last one does.
-use Rattle.std.proofs.Common.{◌≡◌, ◌≢◌, ℕ, zero, suc, ◌+◌, ◌-◌, ◌*◌, ◌%◌, ◌<◌, ◌≤◌, Bool, true, false, ◌&&◌, ◌||◌, leb, eqb, List, [], ◌∷◌, ◌++◌, length, get_or, slice_index_or, refl, sym, ap, subst, ◌∙◌, arith, inl, inr, suc-mul, append_assoc, le-leb}
+use Rattle.std.proofs.Common.{◌≡◌, ◌≢◌, ℕ, zero, suc, ◌+◌, ◌-◌, ◌*◌, ◌%◌, ◌<◌, Bool, true, false, ◌&&◌, ◌||◌, leb, eqb, List, [], ◌∷◌, ◌++◌, length, refl, sym, ap, subst, ◌∙◌, arith, inl, inr, suc-mul, append_assoc, le-leb}
 use Rattle.std.proofs.lemmas.Bool.{cases_lt, ne_eqb, eq-eqb, and_left, and_right}
 use Rattle.std.proofs.lemmas.Nat.{mul-add-lt}
 use Rattle.std.proofs.lemmas.List.{get_or_append_left, get_or_push, length-append}
@@ -8,18 +8,16 @@ use Rattle.std.proofs.Math.Nat.{mul_comm, mul-mod_left, mul-add-mod_self_right, 
 use Rattle.pm_history.specs.declared.entry.Side.{Side}
 use Rattle.pm_history.specs.History.{History}
 use Rattle.pm_history.specs.Terms.{Terms, reporting}
-use Rattle.pm_history.specs.Ticks.{at_some}
 use Rattle.pm_history.specs.Standing.{Making}
 use Rattle.pm_history.specs.Counted.{is_counted, some_counted}
 use Rattle.pm_history.specs.Files.{is_due}
-use Rattle.pm_history.proofs.TickLemmas.{at_some-same, or_false}
+use Rattle.pm_history.proofs.TickLemmas.{or_false}
 use Rattle.pm_close.specs.declared.marks.Marks.{Marks}
 use Rattle.pm_close.specs.declared.part.PartValues.{PartValues}
 use Rattle.pm_close.specs.declared.report.OpenReport.{OpenReport}
-use Rattle.pm_close.specs.declared.report.Due.{Due}
-use Rattle.pm_close.specs.Marks.{MarksStand, PeriodStands}
+use Rattle.pm_close.specs.Marks.{MarksStand}
 use Rattle.pm_close.specs.Parts.{quantities_of, IsPart}
-use Rattle.pm_close.specs.Reports.{AreParts, ReportStands, ReportReaches, DueStands}
+use Rattle.pm_close.specs.Reports.{AreParts, ReportStands, ReportReaches}
 
 module _ (terms : Side → List ℕ → Terms) (h : History) (w : Making) where
   -- some tick of two adjoining periods is counted

@@ -1,5 +1,5 @@
 -- What kept rows stand for once a Now or a Boot ends ticks.
-use Rattle.std.proofs.Common.{◌≡◌, ℕ, zero, suc, ◌+◌, ◌-◌, ◌*◌, ◌<◌, ◌≤◌, List, [], ◌++◌, length, drop, replicate, max, refl, sym, ap, ◌∙◌, arith, inl, inr, ◌⊎◌}
+use Rattle.std.proofs.Common.{◌≡◌, ℕ, zero, suc, ◌+◌, ◌-◌, ◌*◌, ◌<◌, ◌≤◌, List, [], ◌++◌, length, drop, replicate, max, sym, ap, ◌∙◌, arith, inl, inr, ◌⊎◌}
 use Rattle.std.proofs.lemmas.Bool.{cases_lt}
 use Rattle.std.proofs.lemmas.Nat.{mul-le}
 use Rattle.std.proofs.Math.ListN.{drop_of_length-le}
@@ -10,7 +10,7 @@ use Rattle.pm_inventory.specs.Inventory.{SlotKey}
 use Rattle.pm_history.specs.declared.entry.Entry.TheVariants.{Boot, Now}
 use Rattle.pm_history.specs.History.{History, ◌▷◌, last_moment, IsHistory}
 use Rattle.pm_close.specs.declared.cells.TickCells.{TickCells}
-use Rattle.pm_close.specs.Rows.{row_at, rows_of, blank}
+use Rattle.pm_close.specs.Rows.{row_at, rows_of}
 use Rattle.pm_close.specs.Cells.{CellsStand}
 use Rattle.pm_close.proofs.RowLemmas.{length-rows, drop-rows, rows-blank, rows-same}
 use Rattle.pm_close.proofs.EndLemmas.{row_at-stays, row_at-now, row_at-past, row_at-boot}

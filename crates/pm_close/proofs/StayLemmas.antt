@@ -1,5 +1,5 @@
 -- What an entry leaves: cells that are kept, and marks.
-use Rattle.std.proofs.Common.{◌≡◌, ℕ, suc, ◌+◌, ◌*◌, ◌<◌, ◌≤◌, List, ◌++◌, length, map, sym, ◌∙◌, arith, suc-mul}
+use Rattle.std.proofs.Common.{◌≡◌, ℕ, suc, ◌+◌, ◌*◌, ◌≤◌, List, ◌++◌, length, map, sym, ◌∙◌, arith, suc-mul}
 use Rattle.std.proofs.lemmas.Nat.{mul-le}
 use Rattle.pm_base.specs.Moment.{tick_of}
 use Rattle.pm_inventory.specs.Inventory.{SlotKey}

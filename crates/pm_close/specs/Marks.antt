@@ -1,5 +1,5 @@
 -- What marks stand for: of the ticks of a granularity period, which are counted for a job or a monitor (this project's own).
-use Rattle.std.specs.Prelude.{ℕ, suc, ◌+◌, ◌*◌, ◌<◌, ◌≡◌, Bool, false, List, slice_index_or}
+use Rattle.std.specs.Prelude.{ℕ, ◌+◌, ◌*◌, ◌<◌, ◌≡◌, Bool, false, List, slice_index_or}
 use Rattle.pm_history.specs.declared.entry.Side.{Side}
 use Rattle.pm_history.specs.History.{History}
 use Rattle.pm_history.specs.Terms.{Terms}

@@ -1,5 +1,5 @@
 -- The values of one granularity period, in the order in which a report has them.
-use Rattle.std.specs.Prelude.{ℕ, ◌<◌, ◌≡◌, Bool, true, List, length, map, replicate, slice_index_or, Option, None}
+use Rattle.std.specs.Prelude.{ℕ, ◌<◌, ◌≡◌, true, List, length, map, replicate, slice_index_or, Option, None}
 use Rattle.std.specs.List.{flat_map}
 use Rattle.pm_meas.specs.declared.cell.Cell.{Cell}
 use Rattle.pm_meas.specs.declared.kind.Reduce.TheVariants.{Sum}

@@ -1,5 +1,5 @@
 -- The open reporting period of a job, and the report that is due where it ends.
-use Rattle.std.specs.Prelude.{ℕ, ◌+◌, ◌*◌, ◌<◌, ◌≤◌, ◌≡◌, Bool, false, Option, Some, None, List, [], ◌++◌, length, slice_index_or}
+use Rattle.std.specs.Prelude.{ℕ, ◌+◌, ◌*◌, ◌<◌, ◌≤◌, ◌≡◌, false, Option, Some, None, List, [], ◌++◌, length, slice_index_or}
 use Rattle.pm_history.specs.declared.entry.Side.{Side}
 use Rattle.pm_history.specs.History.{History}
 use Rattle.pm_history.specs.Terms.{Terms, reporting}

@@ -1,6 +1,5 @@
 -- Rows of cells by tick: in a row a cell for each slot, and rows end to end, oldest first (this project's own).
-use Rattle.std.specs.Prelude.{ℕ, zero, suc, ◌+◌, ◌*◌, ◌<◌, ◌≤◌, ◌≡◌, ◌==◌, List, [], ◌++◌, length, map, replicate, slice_index_or, if◌then◌else◌}
-use Rattle.pm_base.specs.Moment.{tick_of}
+use Rattle.std.specs.Prelude.{ℕ, zero, suc, ◌+◌, ◌*◌, ◌<◌, ◌≤◌, ◌==◌, List, [], ◌++◌, length, map, replicate, slice_index_or, if◌then◌else◌}
 use Rattle.pm_meas.specs.declared.cell.Cell.{Cell}
 use Rattle.pm_meas.specs.declared.cell.TheConstants.{MAX_VALUE}
 use Rattle.pm_meas.specs.Cell.{cell_of}

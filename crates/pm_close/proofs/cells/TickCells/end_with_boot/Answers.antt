@@ -1,4 +1,4 @@
-use Rattle.std.proofs.Common.{◌≡◌, ◌+◌, ◌-◌, ◌≤◌, arith}
+use Rattle.std.proofs.Common.{arith}
 use Rattle.pm_close.proofs.StandLemmas.{stand-forgotten, stand-boot}
 use Rattle.pm_close.proofs.cells.TickCells.end_with_boot.Goals as goal
 

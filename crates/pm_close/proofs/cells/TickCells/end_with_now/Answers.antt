@@ -1,5 +1,4 @@
-use Rattle.std.proofs.Common.{◌≡◌, ◌+◌, ◌-◌, ◌≤◌, arith, subst, sym}
-use Rattle.pm_close.specs.declared.cells.TickCells.{TickCells}
+use Rattle.std.proofs.Common.{arith, subst, sym}
 use Rattle.pm_close.proofs.StandLemmas.{Reaches, stand-forgotten, reaches-added, reaches-past, stand-now}
 use Rattle.pm_close.proofs.cells.TickCells.end_with_now.Goals as goal
 use Rattle.pm_close.proofs.cells.TickCells.end_with_now.Goals.{then-from-open_tick, else-from-open_tick}

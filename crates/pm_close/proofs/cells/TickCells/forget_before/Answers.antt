@@ -1,6 +1,6 @@
-use Rattle.std.proofs.Common.{◌≡◌, ◌+◌, ◌-◌, ◌*◌, ◌<◌, ◌≤◌, length, drop, ap, ◌∙◌, subst, sym, arith}
+use Rattle.std.proofs.Common.{length, ap, ◌∙◌, subst, sym, arith}
 use Rattle.pm_close.specs.Rows.{AreSmall}
-use Rattle.pm_close.proofs.SmallLemmas.{AreSmall-drop, length-forgotten, drop-at_most}
+use Rattle.pm_close.proofs.SmallLemmas.{AreSmall-drop, length-forgotten}
 use Rattle.pm_close.proofs.cells.TickCells.forget_before.Goals as goal
 
 pub invariant_of-self-clause-small : goal.invariant_of-self-clause-small

@@ -1,4 +1,3 @@
-use Rattle.std.proofs.Common.{◌≡◌, ◌+◌, ◌<◌, ◌≤◌, arith}
 use Rattle.pm_close.proofs.MarkLemmas.{stands-more, period-more}
 use Rattle.pm_close.proofs.marks.Marks.end_tick.Goals as goal
 

@@ -1,4 +1,4 @@
-use Rattle.std.proofs.Common.{◌≡◌, ◌+◌, ◌<◌, ℕ, ap, ◌∙◌, arith}
+use Rattle.std.proofs.Common.{◌≡◌, ◌+◌, ap, ◌∙◌, arith}
 use Rattle.pm_history.specs.Ticks.{at_some}
 use Rattle.pm_history.specs.Counted.{is_counted}
 use Rattle.pm_history.proofs.TickLemmas.{at_some-same}

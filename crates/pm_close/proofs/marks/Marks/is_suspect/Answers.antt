@@ -1,4 +1,4 @@
-use Rattle.std.proofs.Common.{◌≡◌, ◌+◌, ◌<◌, ℕ, not, ap, ◌∙◌, arith}
+use Rattle.std.proofs.Common.{◌≡◌, ◌+◌, not, ap, ◌∙◌, arith}
 use Rattle.pm_history.specs.Ticks.{at_each}
 use Rattle.pm_history.specs.Counted.{is_counted}
 use Rattle.pm_history.proofs.TickLemmas.{at_each-same}

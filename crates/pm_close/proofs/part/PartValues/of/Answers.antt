@@ -1,4 +1,4 @@
-use Rattle.std.proofs.Common.{◌≡◌, ap, ◌∙◌}
+use Rattle.std.proofs.Common.{ap, ◌∙◌}
 use Rattle.pm_history.specs.Value.{is_suspect}
 use Rattle.pm_close.proofs.PartLemmas.{values-are}
 use Rattle.pm_close.proofs.part.PartValues.of.Goals as goal

@@ -1,7 +1,7 @@
-use Rattle.std.proofs.Common.{◌≡◌, ◌+◌, ◌∙◌, refl, sym, ap, subst}
+use Rattle.std.proofs.Common.{◌+◌, ◌∙◌, refl, sym, ap, subst}
 use Rattle.pm_history.specs.Counted.{some_counted}
 use Rattle.pm_close.specs.declared.marks.Marks.{Marks}
-use Rattle.pm_close.specs.Marks.{MarksStand, PeriodStands}
+use Rattle.pm_close.specs.Marks.{MarksStand}
 use Rattle.pm_close.specs.Parts.{quantities_of, IsPart}
 use Rattle.pm_close.proofs.ReportLemmas.{reaches-part}
 use Rattle.pm_close.proofs.report.OpenReport.end_part.Goals as goal

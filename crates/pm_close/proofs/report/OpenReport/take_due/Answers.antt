@@ -1,4 +1,4 @@
-use Rattle.std.proofs.Common.{◌≡◌, ◌+◌, ◌++◌, ◌<◌, ◌≤◌, [], length, ◌∙◌, refl, sym, ap, subst, arith}
+use Rattle.std.proofs.Common.{◌≡◌, ◌++◌, ◌<◌, length, ◌∙◌, refl, sym, ap, subst, arith}
 use Rattle.pm_close.specs.Reports.{AreParts}
 use Rattle.std.proofs.lemmas.List.{length-append}
 use Rattle.pm_close.proofs.ReportLemmas.{not-due, report-due, reaches-stands, next-stands}

@@ -1,4 +1,4 @@
-use Rattle.std.proofs.Common.{◌≡◌, ◌+◌, ◌-◌, ◌*◌, ◌/◌, ◌%◌, ◌<◌, length, ◌∙◌, refl, sym, ap, subst, arith}
+use Rattle.std.proofs.Common.{◌≡◌, ◌-◌, ◌*◌, ◌/◌, ◌%◌, ◌∙◌, refl, sym, ap, subst, arith}
 use Rattle.pm_history.specs.Terms.{reporting}
 use Rattle.pm_close.specs.Marks.{MarksStand}
 use Rattle.pm_close.specs.Parts.{AreNull}
