@@ -22,7 +22,8 @@ map-const f b [] same = refl
 map-const f b (x ∷ xs) same = let rest = map-const f b xs same in λ i. same x i ∷ rest i
 
 -- ticks after the last have no values
-pub tick_values-past : (h : History) (o m t : ℕ) → IsHistory h → tick_of (last_moment h) < t → values_where o m (λ u. eqb u t) h ≡ []
+pub tick_values-past : (h : History) (o m t : ℕ) → IsHistory h → tick_of (last_moment h) < t
+    → values_where o m (λ u. eqb u t) h ≡ []
 tick_values-past Start o m t is lt = refl
 tick_values-past (h ▷ e) o m t is lt =
     let later = is.1.later in
@@ -30,7 +31,8 @@ tick_values-past (h ▷ e) o m t is lt =
     let this = value_where-fails o m (λ u. eqb u t) e (ne_eqb _ _ (λ same. omega arith)) in
     λ i. rest i ++ this i
 
-pub tick_cell-past : (h : History) (t : ℕ) (slot : SlotKey) → IsHistory h → tick_of (last_moment h) < t → tick_cell h t slot ≡ cell_of []
+pub tick_cell-past : (h : History) (t : ℕ) (slot : SlotKey) → IsHistory h → tick_of (last_moment h) < t
+    → tick_cell h t slot ≡ cell_of []
 tick_cell-past h t slot is lt = ap cell_of (tick_values-past h slot.object slot.metric t is lt)
 
 pub tick_cell-now : (h : History) (m t : ℕ) (slot : SlotKey) → tick_cell (h ▷ Now m) t slot ≡ tick_cell h t slot
@@ -39,14 +41,17 @@ tick_cell-now h m t slot = ap cell_of (values_where-now slot.object slot.metric 
 pub tick_cell-boot : (h : History) (m t : ℕ) (slot : SlotKey) → tick_cell (h ▷ Boot m) t slot ≡ tick_cell h t slot
 tick_cell-boot h m t slot = ap cell_of (values_where-boot slot.object slot.metric (λ u. eqb u t) h m)
 
-cells_in-same : (slots : List SlotKey) (g h : History) (t : ℕ) → ((slot : SlotKey) → tick_cell g t slot ≡ tick_cell h t slot) → cells_in slots g t ≡ cells_in slots h t
+cells_in-same : (slots : List SlotKey) (g h : History) (t : ℕ) → ((slot : SlotKey) → tick_cell g t slot ≡ tick_cell h t slot)
+    → cells_in slots g t ≡ cells_in slots h t
 cells_in-same slots g h t same = λ i. map (λ (slot : SlotKey). same slot i) slots
 
-pub cells_in-past : (slots : List SlotKey) (h : History) (t : ℕ) → IsHistory h → tick_of (last_moment h) < t → cells_in slots h t ≡ blank slots
+pub cells_in-past : (slots : List SlotKey) (h : History) (t : ℕ) → IsHistory h → tick_of (last_moment h) < t
+    → cells_in slots h t ≡ blank slots
 cells_in-past slots h t is lt = map-const (tick_cell h t) (cell_of []) slots (λ slot. tick_cell-past h t slot is lt)
 
 -- the rows of ticks that are over stay, whatever comes next
-pub row_at-stays : (slots : List SlotKey) (h : History) (e : Entry) (t : ℕ) → last_moment h ≤ moment_of e → t < tick_of (last_moment h)
+pub row_at-stays : (slots : List SlotKey) (h : History) (e : Entry) (t : ℕ) → last_moment h ≤ moment_of e
+    → t < tick_of (last_moment h)
     → row_at slots (h ▷ e) t ≡ row_at slots h t
 row_at-stays slots h e t le lt =
     let cut = is_cut-stays h e t le lt in
@@ -64,11 +69,13 @@ row_at-now slots h m t =
     λ i. cond (cut i) (blank slots) (cells i)
 
 -- a further tick that ends with it has none
-pub row_at-past : (slots : List SlotKey) (h : History) (t : ℕ) → IsHistory h → tick_of (last_moment h) < t → row_at slots h t ≡ blank slots
+pub row_at-past : (slots : List SlotKey) (h : History) (t : ℕ) → IsHistory h → tick_of (last_moment h) < t
+    → row_at slots h t ≡ blank slots
 row_at-past slots h t is lt = cond-false _ _ _ (is_cut-past h t is lt) ∙ cells_in-past slots h t is lt
 
 -- each that ends with a Boot has none
-pub row_at-boot : (slots : List SlotKey) (h : History) (m t : ℕ) → IsHistory h → tick_of (last_moment h) ≤ t → t ≤ tick_of m → row_at slots (h ▷ Boot m) t ≡ blank slots
+pub row_at-boot : (slots : List SlotKey) (h : History) (m t : ℕ) → IsHistory h → tick_of (last_moment h) ≤ t → t ≤ tick_of m
+    → row_at slots (h ▷ Boot m) t ≡ blank slots
 row_at-boot slots Start m t is from lt = by (is_cut (Start ▷ Boot m) t)
   where
     by : (b : Bool) → cond b (blank slots) (cells_in slots (Start ▷ Boot m) t) ≡ blank slots

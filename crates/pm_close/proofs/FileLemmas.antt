@@ -30,12 +30,15 @@ drop-first f xs rest = ap (λ n. drop n (map f xs ++ rest)) (sym (length-map xs 
 -- the rows of objects from the values of their quantities
 rows-are : (value : Quantity → Option ℕ) (metrics : List Metric) (suspect : Bool) (objects : List ℕ) (rest : List (Option ℕ))
     → rows_with metrics suspect objects (map value (flat_map (quantities_on metrics) objects) ++ rest)
-    ≡ map (λ o. let row : Row = record { object = o; results = map (λ (m : Metric). value (record { object = o; metric = m })) metrics; suspect = suspect } in row) objects
+    ≡ map (λ o. let row : Row = record
+    { object = o; results = map (λ (m : Metric). value (record { object = o; metric = m })) metrics; suspect = suspect } in
+    row) objects
 rows-are value metrics suspect [] rest = refl
 rows-are value metrics suspect (o ∷ os) rest =
     let of : Metric → Option ℕ = λ (m : Metric). value (record { object = o; metric = m }) in
     let more : List (Option ℕ) = map value (flat_map (quantities_on metrics) os) in
-    let parted : map value (quantities_on metrics o ++ flat_map (quantities_on metrics) os) ++ rest ≡ map of metrics ++ (more ++ rest) =
+    let parted : map value (quantities_on metrics o ++ flat_map (quantities_on metrics) os) ++ rest ≡ map of metrics ++
+    (more ++ rest) =
     ap (λ vs. vs ++ rest) (map-append value (quantities_on metrics o) (flat_map (quantities_on metrics) os)
     ∙ ap (λ vs. vs ++ more) (map-map value (λ (m : Metric). let q : Quantity = record { object = o; metric = m } in q) metrics))
     ∙ append_assoc (map of metrics) more rest in
@@ -46,14 +49,18 @@ rows-are value metrics suspect (o ∷ os) rest =
 
 module _ (terms : Side → List ℕ → Terms) (h : History) (w : Making) where
   groups-are : (first n : ℕ) (suspect : Bool) (measured : List Measured) → suspect ≡ is_suspect terms h w first n
-      → groups_with measured suspect (values_over terms h w (quantities_of measured) first n) ≡ map (group_of terms h w first n) measured
+      → groups_with measured suspect (values_over terms h w (quantities_of measured) first n) ≡ map (group_of terms h w first n)
+      measured
   groups-are first n suspect [] same = refl
   groups-are first n suspect (m ∷ ms) same =
       let value : Quantity → Option ℕ = λ (q : Quantity). measured_value terms h w q.object q.metric first n in
       let rest : List (Option ℕ) = map value (quantities_of ms) in
       let parted = map-append value (quantities_in m) (quantities_of ms) in
       let rows = ap (rows_with m.metrics suspect m.objects) parted
-      ∙ (rows-are value m.metrics suspect m.objects rest ∙ (λ i. map (λ o. let row : Row = record { object = o; results = map (λ (k : Metric). value (record { object = o; metric = k })) m.metrics; suspect = same i } in row) m.objects)) in
+      ∙ (rows-are value m.metrics suspect m.objects rest
+      ∙ (λ i. map (λ o. let row : Row = record
+      { object = o; results = map (λ (k : Metric). value (record { object = o; metric = k })) m.metrics; suspect = same i }
+      in row) m.objects)) in
       let left = ap (drop (length (quantities_in m))) parted ∙ drop-first value (quantities_in m) rest in
       let others = ap (groups_with ms suspect) left ∙ groups-are first n suspect ms same in
       λ i. record { class = m.class; metrics = map (λ (k : Metric). k.number) m.metrics; rows = rows i } ∷ others i
@@ -61,11 +68,13 @@ module _ (terms : Side → List ℕ → Terms) (h : History) (w : Making) where
   part-is : (t : Terms) (first : ℕ) (part : PartValues) → IsPart terms h w (quantities_of t.measured) first t.granularity part
       → part_with t first part ≡ part_of terms h w t first
   part-is t first part is =
-      let groups = ap (groups_with t.measured part.suspect) is.values ∙ groups-are first t.granularity part.suspect t.measured is.suspect in
+      let groups = ap (groups_with t.measured part.suspect) is.values
+      ∙ groups-are first t.granularity part.suspect t.measured is.suspect in
       λ i. record { begin = first; end = first + t.granularity; groups = groups i }
 
   -- the first of more parts
-  parts-first : (t : Terms) (first n : ℕ) → parts_of terms h w t first (suc n) ≡ part_of terms h w t first ∷ parts_of terms h w t (first + t.granularity) n
+  parts-first : (t : Terms) (first n : ℕ)
+      → parts_of terms h w t first (suc n) ≡ part_of terms h w t first ∷ parts_of terms h w t (first + t.granularity) n
   parts-first t first zero =
       let at : first + zero * t.granularity ≡ first = omega arith in
       ap (λ f. part_of terms h w t f ∷ []) at
@@ -75,28 +84,34 @@ module _ (terms : Side → List ℕ → Terms) (h : History) (w : Making) where
       let rest = parts-first t first n in
       λ i. rest i ++ part_of terms h w t (at i) ∷ []
 
-  parts-are : (t : Terms) (first : ℕ) (parts : List PartValues) → AreParts terms h w t first parts → parts_with t first parts ≡ parts_of terms h w t first (length parts)
+  parts-are : (t : Terms) (first : ℕ) (parts : List PartValues) → AreParts terms h w t first parts
+      → parts_with t first parts ≡ parts_of terms h w t first (length parts)
   parts-are t first [] each = refl
   parts-are t first (p ∷ ps) each =
       let at : first + zero * t.granularity ≡ first = omega arith in
-      let this = part-is t first p (subst (λ f. IsPart terms h w (quantities_of t.measured) f t.granularity p) at (each zero p (omega arith))) in
+      let this = part-is t first p (subst (λ f. IsPart terms h w (quantities_of t.measured) f t.granularity p) at
+      (each zero p (omega arith))) in
       let rest = parts-are t (first + t.granularity) ps (λ k d lt.
       let product = suc-mul k t.granularity in
       let next : first + suc k * t.granularity ≡ first + t.granularity + k * t.granularity = omega (arith, product) in
-      subst (λ f. IsPart terms h w (quantities_of t.measured) f t.granularity (slice_index_or ps k d)) next (each (suc k) d (omega arith))) in
+      subst (λ f. IsPart terms h w (quantities_of t.measured) f t.granularity (slice_index_or ps k d)) next
+      (each (suc k) d (omega arith))) in
       (λ i. this i ∷ rest i) ∙ sym (parts-first t first (length ps))
 
 -- what is due is the file of the definition
-pub due-is-file : (terms : Side → List ℕ → Terms) (h : History) (id : List ℕ) (s : Standing) (end : ℕ) (earlier : List PartValues) (due : Due)
+pub due-is-file : (terms : Side → List ℕ → Terms) (h : History) (id : List ℕ) (s : Standing) (end : ℕ)
+    (earlier : List PartValues) (due : Due)
     → DueStands terms h (making_of Job id s) (terms Job s.body) end earlier due
-    → file_of terms h id end (Some s) ≡ cond due.counted (report_with id (terms Job s.body) due.begin (earlier ++ due.parts.items) ∷ []) []
+    → file_of terms h id end (Some s) ≡ cond due.counted
+    (report_with id (terms Job s.body) due.begin (earlier ++ due.parts.items) ∷ []) []
 due-is-file terms h id s end earlier due stand =
     let w = making_of Job id s in
     let t = terms Job s.body in
     let ends = stand.ends in
     let begin : due.begin ≡ end - reporting t = omega (arith, ends) in
     let parts : parts_with t due.begin (earlier ++ due.parts.items) ≡ parts_of terms h w t (end - reporting t) t.parts =
-    parts-are terms h w t due.begin (earlier ++ due.parts.items) stand.parts ∙ (λ i. parts_of terms h w t (begin i) (stand.whole i)) in
+    parts-are terms h w t due.begin (earlier ++ due.parts.items) stand.parts
+    ∙ (λ i. parts_of terms h w t (begin i) (stand.whole i)) in
     let report : report_with id t due.begin (earlier ++ due.parts.items) ≡ report_of terms h w t end =
     λ i. record { job = id; begin = begin i; end = ends i; parts = parts i } in
     λ i. cond (sym stand.counted i) (sym report i ∷ []) []

@@ -21,11 +21,13 @@ flat_map-none f [] none = refl
 flat_map-none f (x ∷ xs) none = let rest = flat_map-none f xs none in λ i. none x i ++ rest i
 
 module _ (terms : Side → List ℕ → Terms) where
-  pub some_counted-none : (h : History) (w : Making) (first n : ℕ) → ((t : ℕ) → first ≤ t → t < first + n → is_counted terms h w t ≡ false)
+  pub some_counted-none : (h : History) (w : Making) (first n : ℕ)
+      → ((t : ℕ) → first ≤ t → t < first + n → is_counted terms h w t ≡ false)
       → some_counted terms h w first n ≡ false
   some_counted-none h w first zero none = refl
   some_counted-none h w first (suc n) none =
-      or_from _ _ (some_counted-none h w first n (λ t from lt. none t from (omega arith))) (none (first + n) (omega arith) (omega arith))
+      or_from _ _ (some_counted-none h w first n (λ t from lt. none t from (omega arith)))
+      (none (first + n) (omega arith) (omega arith))
 
   -- a reporting period that lies wholly in the stretch has no file
   pub file_of-gap : (h : History) (id : List ℕ) (end a b : ℕ) (s : Standing)
@@ -41,17 +43,21 @@ module _ (terms : Side → List ℕ → Terms) where
   -- GAP: where each standing reporting period that ends here lies wholly in the stretch, no file does
   pub files_at-gap : (h : History) (end a b : ℕ)
       → ((w : Making) (t : ℕ) → a ≤ t → t < b → is_counted terms h w t ≡ false)
-      → ((id : List ℕ) (s : Standing) → standing_after terms Job (before (60 * end) h) id ≡ Some s → a + reporting (terms Job s.body) ≤ end)
+      → ((id : List ℕ) (s : Standing) → standing_after terms Job (before (60 * end) h) id ≡ Some s
+      → a + reporting (terms Job s.body) ≤ end)
       → end ≤ b
       → files_at terms h end ≡ []
   files_at-gap h end a b none wide to =
-      flat_map-none (file_at terms h end) (ids_after Job (before (60 * end) h)) (λ id. by id (standing_after terms Job (before (60 * end) h) id) refl)
+      flat_map-none (file_at terms h end) (ids_after Job (before (60 * end) h))
+      (λ id. by id (standing_after terms Job (before (60 * end) h) id) refl)
     where
-      by : (id : List ℕ) (o : Option Standing) → standing_after terms Job (before (60 * end) h) id ≡ o → file_of terms h id end o ≡ []
+      by : (id : List ℕ) (o : Option Standing) → standing_after terms Job (before (60 * end) h) id ≡ o
+          → file_of terms h id end o ≡ []
       by id None is = refl
       by id (Some s) is = file_of-gap h id end a b s (λ t from lt. none (making_of Job id s) t from lt) (wide id s is) to
 
-  -- the stretch that ends with a Boot: of one item only the period open at the last moment may have a file. Its end is the first multiple of
+  -- the stretch that ends with a Boot: of one item only the period open at the last moment may have a file. Its end is the
+  -- first multiple of
   -- the reporting period after the tick of the last moment.
   pub file_of-boot : (h : History) (m : ℕ) (id : List ℕ) (end periods ends : ℕ) (s : Standing) → 0 < size h
       → periods * reporting (terms Job s.body) ≤ tick_of (last_moment h)
@@ -69,7 +75,8 @@ module _ (terms : Side → List ℕ → Terms) where
 
   -- a whole stretch of ends that come with a Boot, once each standing reporting period has passed
   pub files-boot : (h : History) (m late k : ℕ) → 0 < size h
-      → ((id : List ℕ) (s : Standing) (end : ℕ) → late < end → end ≤ late + k → standing_after terms Job (before (60 * end) (h ▷ Boot m)) id ≡ Some s
+      → ((id : List ℕ) (s : Standing) (end : ℕ) → late < end → end ≤ late + k
+      → standing_after terms Job (before (60 * end) (h ▷ Boot m)) id ≡ Some s
       → tick_of (last_moment h) + reporting (terms Job s.body) ≤ end)
       → late + k ≤ tick_of m
       → behind (files_at terms (h ▷ Boot m)) late k ≡ []

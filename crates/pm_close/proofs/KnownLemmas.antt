@@ -30,19 +30,22 @@ known-kept : (kept : TickCells) (row : List Cell) (slot tick : ℕ) → kept.fir
     → known_cell kept row slot tick ≡ cell_at kept.cells.items kept.slots slot (tick - kept.first)
 known-kept kept row slot tick from to = cond-false _ _ _ (le-ltb _ _ from) ∙ cond-true _ _ _ (lt-ltb _ _ to)
 
-known-open : (kept : TickCells) (row : List Cell) (slot tick : ℕ) → tick ≡ kept.first + kept.ticks → known_cell kept row slot tick ≡ get_or row slot (cell_of [])
+known-open : (kept : TickCells) (row : List Cell) (slot tick : ℕ) → tick ≡ kept.first + kept.ticks
+    → known_cell kept row slot tick ≡ get_or row slot (cell_of [])
 known-open kept row slot tick at =
     cond-false _ _ _ (le-ltb tick kept.first (omega (arith, at)))
     ∙ (cond-false _ _ _ (le-ltb tick (kept.first + kept.ticks) (omega (arith, at))) ∙ cond-true _ _ _ (eq-eqb _ _ at))
 
-known-later : (kept : TickCells) (row : List Cell) (slot tick : ℕ) → kept.first + kept.ticks < tick → known_cell kept row slot tick ≡ cell_of []
+known-later : (kept : TickCells) (row : List Cell) (slot tick : ℕ) → kept.first + kept.ticks < tick
+    → known_cell kept row slot tick ≡ cell_of []
 known-later kept row slot tick past =
     let other : tick ≢ kept.first + kept.ticks = λ at. omega (arith, at, past) in
     cond-false _ _ _ (le-ltb tick kept.first (omega arith))
     ∙ (cond-false _ _ _ (le-ltb tick (kept.first + kept.ticks) (omega arith)) ∙ cond-false _ _ _ (ne_eqb _ _ other))
 
 -- a slot's cell in a row of a tick that isn't cut
-row-uncut : (slots : List SlotKey) (h : History) (slot tick : ℕ) (key : SlotKey) → slot < length slots → get_or slots slot key ≡ key → is_cut h tick ≡ false
+row-uncut : (slots : List SlotKey) (h : History) (slot tick : ℕ) (key : SlotKey) → slot < length slots
+    → get_or slots slot key ≡ key → is_cut h tick ≡ false
     → get_or (row_at slots h tick) slot (cell_of []) ≡ tick_cell h tick key
 row-uncut slots h slot tick key lt is uncut =
     ap (λ (row : List Cell). get_or row slot (cell_of [])) (cond-false _ (blank slots) (cells_in slots h tick) uncut)
@@ -81,16 +84,20 @@ knows-after slots g h kept row is uncut same row_is stand = record {
 pub knows-now : (slots : List SlotKey) (h : History) (m : ℕ) (kept : TickCells) (row : List Cell) → IsHistory h
     → AreOpen slots h row → CellsStand slots h kept → KnowsCells slots (h ▷ Now m) kept row
 knows-now slots h m kept row is =
-    knows-after slots (h ▷ Now m) h kept row is (λ t uncut. (or_parts (is_cut h t) (cuts h (Now m) t) uncut).0) (tick_cell-now h m)
+    knows-after slots (h ▷ Now m) h kept row is (λ t uncut. (or_parts (is_cut h t) (cuts h (Now m) t) uncut).0)
+    (tick_cell-now h m)
 
 pub knows-boot : (slots : List SlotKey) (h : History) (m : ℕ) (kept : TickCells) (row : List Cell) → IsHistory h
     → AreOpen slots h row → CellsStand slots h kept → KnowsCells slots (h ▷ Boot m) kept row
 knows-boot slots h m kept row is =
-    knows-after slots (h ▷ Boot m) h kept row is (λ t uncut. (or_parts (is_cut h t) (cuts h (Boot m) t) uncut).0) (tick_cell-boot h m)
+    knows-after slots (h ▷ Boot m) h kept row is (λ t uncut. (or_parts (is_cut h t) (cuts h (Boot m) t) uncut).0)
+    (tick_cell-boot h m)
 
 -- the value of a period by its marks and what is known of its ticks
-pub value_by-period : (kept : TickCells) (row : List Cell) (slot : ℕ) (period : Marks) (reduce : Reduce) (cell : Cell) (some : Bool) (answer : Option ℕ)
-    (terms : Side → List ℕ → Terms) (slots : List SlotKey) (h : History) (w : Making) (key : SlotKey) (metric : Metric) (granularity end : ℕ)
+pub value_by-period : (kept : TickCells) (row : List Cell) (slot : ℕ) (period : Marks) (reduce : Reduce) (cell : Cell)
+    (some : Bool) (answer : Option ℕ)
+    (terms : Side → List ℕ → Terms) (slots : List SlotKey) (h : History) (w : Making) (key : SlotKey) (metric : Metric)
+    (granularity end : ℕ)
     → slot < kept.slots → IsCovered kept period
     → some ≡ at_some period.count (mark_at period)
     → cell ≡ merged_where (mark_at period) (λ k. known_cell kept row slot (period.begin + k)) 0 period.count
@@ -98,10 +105,12 @@ pub value_by-period : (kept : TickCells) (row : List Cell) (slot : ℕ) (period 
     → KnowsCells slots h kept row → slice_index_or slots slot key ≡ key → metric.number ≡ key.metric → metric.reduce ≡ reduce
     → PeriodStands terms h w granularity end period
     → cond some answer None ≡ measured_value terms h w key.object metric period.begin granularity
-value_by-period kept row slot period reduce cell some answer terms slots h w key metric granularity end in_row covered some_is cell_is reads knows at number same stand =
+value_by-period kept row slot period reduce cell some answer terms slots h w key metric granularity end in_row covered some_is
+    cell_is reads knows at number same stand =
     let wide = knows.wide in
     let whole = stand.whole in
-    value_by-marks terms h w key.object metric period.begin granularity (mark_at period) (λ k. known_cell kept row slot (period.begin + k)) reduce cell some answer
+    value_by-marks terms h w key.object metric period.begin granularity (mark_at period)
+    (λ k. known_cell kept row slot (period.begin + k)) reduce cell some answer
     (λ k lt. stand.counted k (omega (arith, lt, whole)))
     (λ k lt counted.
     let marked : mark_at period k ≡ true = stand.counted k (omega (arith, lt, whole)) ∙ counted in
@@ -110,7 +119,8 @@ value_by-period kept row slot period reduce cell some answer terms slots h w key
       | inl before ↦ absurd (let none = covered k (omega (arith, lt, whole)) before in cc)
       | inr le ↦ le
     ] in
-    knows.known slot (period.begin + k) key (omega (arith, in_row, wide)) at from (counted-uncut terms h w (period.begin + k) counted)
+    knows.known slot (period.begin + k) key (omega (arith, in_row, wide)) at from
+    (counted-uncut terms h w (period.begin + k) counted)
     ∙ ap (λ n. fold_in h key.object n (period.begin + k)) (sym number))
     (sym same)
     (some_is ∙ ap (λ n. at_some n (mark_at period)) whole)

@@ -12,3 +12,4 @@ pub mod ReportLemmas
 pub mod GapLemmas
 pub mod NullLemmas
 pub mod FileLemmas
+pub mod FlagLemmas

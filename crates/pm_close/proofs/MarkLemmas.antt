@@ -20,7 +20,8 @@ none-set (suc n) (suc k) = none-set n k
 
 module _ (terms : Side → List ℕ → Terms) (h : History) (w : Making) (granularity tick : ℕ) where
   -- nothing of the open period is counted yet
-  pub unmarked-stands : (marks : Marks) → 0 < granularity → marks.begin ≡ tick - tick % granularity → marks.count ≡ tick % granularity
+  pub unmarked-stands : (marks : Marks) → 0 < granularity → marks.begin ≡ tick - tick % granularity
+      → marks.count ≡ tick % granularity
       → ((k : ℕ) → mark_at marks k ≡ false)
       → ((t : ℕ) → marks.begin ≤ t → t < tick → is_counted terms h w t ≡ false)
       → MarksStand terms h w granularity tick marks
@@ -32,11 +33,13 @@ module _ (terms : Side → List ℕ → Terms) (h : History) (w : Making) (granu
         begins = omega (arith, begin_is, rest, le);
         reach = omega (arith, begin_is, count_is, rest, le);
         within = let lt = mod-lt tick some in omega (arith, count_is, lt);
-        counted = λ k lt. none k ∙ sym (uncounted (marks.begin + k) (omega arith) (omega (arith, begin_is, count_is, rest, le, lt)));
+        counted = λ k lt. none k ∙ sym
+            (uncounted (marks.begin + k) (omega arith) (omega (arith, begin_is, count_is, rest, le, lt)));
       }
 
   -- one more mark that says whether its tick is counted
-  pub counted-more : (old new : Marks) (mark : Bool) → IsMarked old mark new → old.begin + old.count ≡ tick → mark ≡ is_counted terms h w tick
+  pub counted-more : (old new : Marks) (mark : Bool) → IsMarked old mark new → old.begin + old.count ≡ tick
+      → mark ≡ is_counted terms h w tick
       → AreCounted terms h w old → AreCounted terms h w new
   counted-more old new mark more reach mark_is counted k lt =
       let count = more.count in
@@ -49,7 +52,8 @@ module _ (terms : Side → List ℕ → Terms) (h : History) (w : Making) (granu
             ap (mark_at new) last ∙ (more.last ∙ (mark_is ∙ ap (is_counted terms h w) at))
       ]
 
-  pub stands-more : (old new : Marks) (mark : Bool) → IsMarked old mark new → new.count < granularity → mark ≡ is_counted terms h w tick
+  pub stands-more : (old new : Marks) (mark : Bool) → IsMarked old mark new → new.count < granularity
+      → mark ≡ is_counted terms h w tick
       → MarksStand terms h w granularity tick old → MarksStand terms h w granularity (tick + 1) new
   stands-more old new mark more within mark_is stand =
       let reach = stand.reach in
@@ -63,7 +67,8 @@ module _ (terms : Side → List ℕ → Terms) (h : History) (w : Making) (granu
         counted = counted-more old new mark more reach mark_is stand.counted;
       }
 
-  pub period-more : (old new : Marks) (mark : Bool) → IsMarked old mark new → granularity ≤ new.count → mark ≡ is_counted terms h w tick
+  pub period-more : (old new : Marks) (mark : Bool) → IsMarked old mark new → granularity ≤ new.count
+      → mark ≡ is_counted terms h w tick
       → MarksStand terms h w granularity tick old → PeriodStands terms h w granularity (tick + 1) new
   period-more old new mark more full mark_is stand =
       let reach = stand.reach in
@@ -98,7 +103,8 @@ module _ (terms : Side → List ℕ → Terms) (h : History) (w : Making) (granu
       }
 
 -- whether a request counts a tick that it ends
-pub counts-now : (terms : Side → List ℕ → Terms) (side : Side) (h : History) (m : ℕ) (id : List ℕ) (s : Standing) (cut unlocked answer : Bool) (changed tick : ℕ)
+pub counts-now : (terms : Side → List ℕ → Terms) (side : Side) (h : History) (m : ℕ) (id : List ℕ) (s : Standing)
+    (cut unlocked answer : Bool) (changed tick : ℕ)
     → IsHistory h → standing_after terms side h id ≡ Some s → s.changed ≡ changed → s.unlocked ≡ unlocked → is_cut h tick ≡ cut
     → tick_of (last_moment h) ≤ tick → tick < tick_of m
     → answer ≡ (not cut && (ltb changed (60 * tick) && unlocked))

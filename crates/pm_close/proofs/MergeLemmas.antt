@@ -89,13 +89,16 @@ merged-crosswise a b c d =
     λ i. record { n = n_is i; sum = sum_is i; max = max_is i; min = min_is i }
 
 -- events of ticks that pass one of two tests, but never both
-cell_where-split : (o m : ℕ) (p q r : ℕ → Bool) (e : Entry) → ((t : ℕ) → r t ≡ (p t || q t)) → ((t : ℕ) → p t ≡ true → q t ≡ false)
+cell_where-split : (o m : ℕ) (p q r : ℕ → Bool) (e : Entry) → ((t : ℕ) → r t ≡ (p t || q t))
+    → ((t : ℕ) → p t ≡ true → q t ≡ false)
     → cell_of (value_where o m r e) ≡ merged (cell_of (value_where o m p e)) (cell_of (value_where o m q e))
 cell_where-split o m p q r (Event moment object metric value registered) either apart =
-    split (eqb object o && eqb metric m && registered) (p (tick_of moment)) (q (tick_of moment)) (r (tick_of moment)) (either (tick_of moment)) (apart (tick_of moment))
+    split (eqb object o && eqb metric m && registered) (p (tick_of moment)) (q (tick_of moment)) (r (tick_of moment))
+    (either (tick_of moment)) (apart (tick_of moment))
   where
     split : (a x y z : Bool) → z ≡ (x || y) → (x ≡ true → y ≡ false)
-        → cell_of (cond (a && z) (value ∷ []) []) ≡ merged (cell_of (cond (a && x) (value ∷ []) [])) (cell_of (cond (a && y) (value ∷ []) []))
+        → cell_of (cond (a && z) (value ∷ []) []) ≡ merged (cell_of (cond (a && x) (value ∷ []) []))
+        (cell_of (cond (a && y) (value ∷ []) []))
     split false x y z is f = sym (merged-empty [])
     split true true true z is f = absurd (cc (f refl))
     split true true false z is f = rw is (sym (merged-empty (value ∷ [])))
@@ -103,7 +106,8 @@ cell_where-split o m p q r (Event moment object metric value registered) either 
     split true false false z is f = rw is (sym (merged-empty []))
 cell_where-split o m p q r _ either apart = sym (merged-empty [])
 
-pub cells_where-split : (o m : ℕ) (p q r : ℕ → Bool) (h : History) → ((t : ℕ) → r t ≡ (p t || q t)) → ((t : ℕ) → p t ≡ true → q t ≡ false)
+pub cells_where-split : (o m : ℕ) (p q r : ℕ → Bool) (h : History) → ((t : ℕ) → r t ≡ (p t || q t))
+    → ((t : ℕ) → p t ≡ true → q t ≡ false)
     → cell_of (values_where o m r h) ≡ merged (cell_of (values_where o m p h)) (cell_of (values_where o m q h))
 cells_where-split o m p q r Start either apart = sym (merged-empty [])
 cells_where-split o m p q r (h ▷ e) either apart =
@@ -117,30 +121,38 @@ cells_where-split o m p q r (h ▷ e) either apart =
 module _ (terms : Side → List ℕ → Terms) where
   -- the counted events of one more tick
   one_tick : (o m x : ℕ) (c : ℕ → Bool) (h : History) (b : Bool) (acc : List ℕ) → c x ≡ b
-      → merged (cell_of acc) (cell_of (values_where o m (λ t. eqb t x && c t) h)) ≡ cond b (merged (cell_of acc) (fold_in h o m x)) (cell_of acc)
+      → merged (cell_of acc) (cell_of (values_where o m (λ t. eqb t x && c t) h)) ≡ cond b
+      (merged (cell_of acc) (fold_in h o m x)) (cell_of acc)
   one_tick o m x c h true acc is =
-      ap (λ vs. merged (cell_of acc) (cell_of vs)) (values_where-same o m (λ t. eqb t x && c t) (λ t. eqb t x) h (λ t. both_true (eqb t x) (c t) (λ at. ap c (eqb-true t x at) ∙ is)))
+      ap (λ vs. merged (cell_of acc) (cell_of vs))
+      (values_where-same o m (λ t. eqb t x && c t)
+      (λ t. eqb t x) h (λ t. both_true (eqb t x) (c t) (λ at. ap c (eqb-true t x at) ∙ is)))
   one_tick o m x c h false acc is =
-      ap (λ vs. merged (cell_of acc) (cell_of vs)) (values_where-none o m (λ t. eqb t x && c t) h (λ t. both_false (eqb t x) (c t) (λ at. ap c (eqb-true t x at) ∙ is)))
+      ap (λ vs. merged (cell_of acc) (cell_of vs))
+      (values_where-none o m (λ t. eqb t x && c t) h (λ t. both_false (eqb t x) (c t) (λ at. ap c (eqb-true t x at) ∙ is)))
       ∙ merged-empty acc
 
   -- the cell of the counted events of a period is the merge of the cells of its counted ticks
   pub counted_cell : (h : History) (w : Making) (o m first n : ℕ)
       → cell_of (counted_values terms h w o m first n) ≡ merged_where (is_counted terms h w) (fold_in h o m) first n
   counted_cell h w o m first zero =
-      ap cell_of (values_where-none o m (λ t. is_within first zero t && is_counted terms h w t) h (λ t. and_left (is_within first zero t) (is_counted terms h w t) (within_none first t)))
+      ap cell_of (values_where-none o m (λ t. is_within first zero t && is_counted terms h w t) h
+      (λ t. and_left (is_within first zero t) (is_counted terms h w t) (within_none first t)))
   counted_cell h w o m first (suc n) =
       let c : ℕ → Bool = λ t. is_counted terms h w t in
       let p : ℕ → Bool = λ t. is_within first n t && c t in
       let q : ℕ → Bool = λ t. eqb t (first + n) && c t in
       let r : ℕ → Bool = λ t. is_within first (suc n) t && c t in
-      let either : (t : ℕ) → r t ≡ (p t || q t) = λ t. ap (λ b. b && c t) (within_step first n t) ∙ or_and (is_within first n t) (eqb t (first + n)) (c t) in
+      let either : (t : ℕ) → r t ≡ (p t || q t) = λ t. ap (λ b. b && c t) (within_step first n t)
+      ∙ or_and (is_within first n t) (eqb t (first + n)) (c t) in
       let apart : (t : ℕ) → p t ≡ true → q t ≡ false = λ t in_p.
-      let inside : t < first + n = ltb-true t (first + n) (and_parts (leb first t) (ltb t (first + n)) (and_parts (is_within first n t) (c t) in_p).0).1 in
+      let inside : t < first + n = ltb-true t (first + n)
+      (and_parts (leb first t) (ltb t (first + n)) (and_parts (is_within first n t) (c t) in_p).0).1 in
       and_left (eqb t (first + n)) (c t) (ne_eqb t (first + n) (λ same. omega arith)) in
       cells_where-split o m p q r h either apart
       ∙ (one_tick o m (first + n) c h (c (first + n)) (values_where o m p h) refl
-      ∙ (let rest = counted_cell h w o m first n in λ i. cond (c (first + n)) (merged (rest i) (fold_in h o m (first + n))) (rest i)))
+      ∙ (let rest = counted_cell h w o m first n in λ i. cond (c (first + n)) (merged (rest i) (fold_in h o m (first + n)))
+      (rest i)))
 
   -- MERGE: any list whose cell is the merge, with values that a cell holds, reads as the value; null where no tick is counted
   pub measured_none : (h : History) (w : Making) (o : ℕ) (m : Metric) (first n : ℕ) → some_counted terms h w first n ≡ false

@@ -19,7 +19,8 @@ use Rattle.pm_close.proofs.EndLemmas.{map-const}
 use Rattle.pm_close.proofs.MergeLemmas.{measured_none}
 use Rattle.pm_close.proofs.GapLemmas.{some_counted-none}
 
-pub AreNull-more : (values : ℕ) (parts : List PartValues) (part : PartValues) → IsNull values part → AreNull values parts → AreNull values (parts ++ part ∷ [])
+pub AreNull-more : (values : ℕ) (parts : List PartValues) (part : PartValues) → IsNull values part → AreNull values parts
+    → AreNull values (parts ++ part ∷ [])
 AreNull-more values parts part is each k d lt =
     let long = length-append parts (part ∷ []) in
     elim (cases_lt k (length parts)) [
@@ -38,10 +39,12 @@ rest-of-rest x p g =
     sym (mul-add-mod_self_right (x / (p * g) * p) g (x % (p * g))) ∙ ap (λ y. y % g) parted
 
 module _ (terms : Side → List ℕ → Terms) (h : History) (w : Making) where
-  none-suspect : (first n : ℕ) → 0 < n → ((t : ℕ) → first ≤ t → t < first + n → is_counted terms h w t ≡ false) → not (all_counted terms h w first n) ≡ true
+  none-suspect : (first n : ℕ) → 0 < n → ((t : ℕ) → first ≤ t → t < first + n → is_counted terms h w t ≡ false)
+      → not (all_counted terms h w first n) ≡ true
   none-suspect first zero some none = absurd (omega arith)
   none-suspect first (suc n) some none =
-      ap not (and_right (all_counted terms h w first n) (is_counted terms h w (first + n)) (none (first + n) (omega arith) (omega arith)))
+      ap not (and_right (all_counted terms h w first n) (is_counted terms h w (first + n))
+      (none (first + n) (omega arith) (omega arith)))
 
   pub null-part : (quantities : List Quantity) (first n : ℕ) (part : PartValues) → 0 < n
       → ((t : ℕ) → first ≤ t → t < first + n → is_counted terms h w t ≡ false)
@@ -60,19 +63,23 @@ module _ (terms : Side → List ℕ → Terms) (h : History) (w : Making) where
       → finished ≡ tick % reporting t / t.granularity → length report.parts.items ≡ finished
       → AreNull (length (quantities_of t.measured)) report.parts.items
       → report.marks.begin ≡ tick - tick % t.granularity
-      → (((u : ℕ) → report.marks.begin ≤ u → u < tick → is_counted terms h w u ≡ false) → MarksStand terms h w t.granularity tick report.marks)
+      → (((u : ℕ) → report.marks.begin ≤ u → u < tick → is_counted terms h w u ≡ false)
+      → MarksStand terms h w t.granularity tick report.marks)
       → ((u : ℕ) → report.begin ≤ u → u < tick → is_counted terms h w u ≡ false)
       → ReportStands terms h w t tick [] report
-  unmarked-report t tick finished report some_ticks some_parts begin_is earlier_is counted_is finished_is long nulls marks_begin marks none =
+  unmarked-report t tick finished report some_ticks some_parts begin_is earlier_is counted_is finished_is long nulls marks_begin
+      marks none =
       let g = t.granularity in
       let r = reporting t in
-      let wide : 0 < r = let whole = suc-mul (t.parts - 1) g in let parts : suc (t.parts - 1) ≡ t.parts = omega arith in let product = ap (λ n. n * g) parts in omega (arith, whole, product, some_ticks) in
+      let wide : 0 < r = let whole = suc-mul (t.parts - 1) g in let parts : suc (t.parts - 1) ≡ t.parts = omega arith in let
+      product = ap (λ n. n * g) parts in omega (arith, whole, product, some_ticks) in
       let turns = div-add-mod' tick r in
       let within = mod-lt tick wide in
       let pieces = div-add-mod' (tick % r) g in
       let rest = rest-of-rest tick t.parts g in
       let finished_ticks : finished * g ≡ tick % r / g * g = ap (λ n. n * g) finished_is in
-      let at : report.marks.begin ≡ report.begin + finished * g = omega (arith, begin_is, marks_begin, turns, pieces, rest, finished_ticks) in
+      let at : report.marks.begin ≡ report.begin + finished * g = omega
+      (arith, begin_is, marks_begin, turns, pieces, rest, finished_ticks) in
       let length_ticks : length report.parts.items * g ≡ finished * g = ap (λ n. n * g) long in
       let later : report.begin ≤ report.marks.begin = omega (arith, at) in
       let reach : report.marks.begin ≤ tick = omega (arith, marks_begin) in

@@ -16,7 +16,8 @@ use Rattle.pm_close.specs.Marks.{PeriodStands}
 use Rattle.pm_close.specs.Values.{KnowsCells, IsValue}
 use Rattle.pm_close.specs.Parts.{Quantity, no_quantity, measure_at, ReadEach, AreValues, values_over}
 
-pub AreValues-more : (kept : TickCells) (row : List Cell) (measures : List Measure) (period : Marks) (answers : List (Option ℕ)) (answer : Option ℕ) (k : ℕ)
+pub AreValues-more : (kept : TickCells) (row : List Cell) (measures : List Measure) (period : Marks) (answers : List (Option ℕ))
+    (answer : Option ℕ) (k : ℕ)
     → length answers ≡ k
     → IsValue kept row (measure_at measures k).slot period (measure_at measures k).reduce answer
     → AreValues kept row measures period answers → AreValues kept row measures period (answers ++ answer ∷ [])
@@ -24,7 +25,8 @@ AreValues-more kept row measures period answers answer k long is each j lt =
     let more = length-append answers (answer ∷ []) in
     elim (cases_lt j (length answers)) [
       | inl below ↦
-          subst (IsValue kept row (measure_at measures j).slot period (measure_at measures j).reduce) (sym (get_or_append_left answers (answer ∷ []) None j below)) (each j below)
+          subst (IsValue kept row (measure_at measures j).slot period (measure_at measures j).reduce)
+          (sym (get_or_append_left answers (answer ∷ []) None j below)) (each j below)
       | inr past ↦
           let at : k ≡ j = omega (arith, long, more, lt, past) in
           let last = get_or_push answers answer None j (omega (arith, long, at)) in
@@ -33,7 +35,8 @@ AreValues-more kept row measures period answers answer k long is each j lt =
     ]
 
 pub values-are : (kept : TickCells) (row : List Cell) (measures : List Measure) (period : Marks) (answers : List (Option ℕ))
-    (terms : Side → List ℕ → Terms) (slots : List SlotKey) (h : History) (w : Making) (quantities : List Quantity) (granularity end : ℕ)
+    (terms : Side → List ℕ → Terms) (slots : List SlotKey) (h : History) (w : Making) (quantities : List Quantity)
+    (granularity end : ℕ)
     → AreValues kept row measures period answers → length answers ≡ length measures
     → KnowsCells slots h kept row → ReadEach slots measures quantities → PeriodStands terms h w granularity end period
     → answers ≡ values_over terms h w quantities period.begin granularity
@@ -44,5 +47,6 @@ values-are kept row measures period answers terms slots h w quantities granulari
     ext_get_or None answers (map value quantities) (omega (arith, long, same, as_many)) (λ k lt.
     let q = slice_index_or quantities k no_quantity in
     let read = reads.each k (omega (arith, lt, as_many)) in
-    each k lt terms slots h w (record { object = q.object; metric = q.metric.number }) q.metric granularity end knows (read.slot _) refl read.reduce stand
+    each k lt terms slots h w (record { object = q.object; metric = q.metric.number }) q.metric granularity end knows
+    (read.slot _) refl read.reduce stand
     ∙ sym (get_or-map value quantities k no_quantity None (omega (arith, lt, as_many, same))))

@@ -25,13 +25,15 @@ merged_where-same p q c d a b (suc n) tests cells =
     (λ i. cond (tests n (omega arith) i) (merged (rest i) (c (a + n))) (rest i))
     ∙ by (q (b + n)) (merged_where q d b n) (cells n (omega arith))
   where
-    by : (t : Bool) (acc : Cell) → (t ≡ true → c (a + n) ≡ d (b + n)) → cond t (merged acc (c (a + n))) acc ≡ cond t (merged acc (d (b + n))) acc
+    by : (t : Bool) (acc : Cell) → (t ≡ true → c (a + n) ≡ d (b + n))
+        → cond t (merged acc (c (a + n))) acc ≡ cond t (merged acc (d (b + n))) acc
     by true acc same = ap (merged acc) (same refl)
     by false acc same = refl
 
 -- a column by itself: where the marks are what is counted, and each marked cell that of its tick
 module _ (terms : Side → List ℕ → Terms) where
-  pub value_by-marks : (h : History) (w : Making) (o : ℕ) (m : Metric) (first n : ℕ) (marked : ℕ → Bool) (cells : ℕ → Cell) (reduce : Reduce) (cell : Cell) (some : Bool) (answer : Option ℕ)
+  pub value_by-marks : (h : History) (w : Making) (o : ℕ) (m : Metric) (first n : ℕ) (marked : ℕ → Bool) (cells : ℕ → Cell)
+      (reduce : Reduce) (cell : Cell) (some : Bool) (answer : Option ℕ)
       → ((k : ℕ) → k < n → marked k ≡ is_counted terms h w (first + k))
       → ((k : ℕ) → k < n → is_counted terms h w (first + k) ≡ true → cells k ≡ fold_in h o m.number (first + k))
       → reduce ≡ m.reduce
@@ -46,7 +48,8 @@ module _ (terms : Side → List ℕ → Terms) where
       (λ k lt. ap marked (begun k) ∙ marks k lt) (λ k lt counted. ap cells (begun k) ∙ stand k lt counted)
       ∙ sym (counted_cell terms h w o m.number first n)) in
       let some_counted_is = some_is ∙ at_some-same n marked (λ k. is_counted terms h w (first + k)) marks in
-      let answer_is = reads (counted_values terms h w o m.number first n) cell_counted ∙ ap (λ r. reduced r (counted_values terms h w o m.number first n)) same in
+      let answer_is = reads (counted_values terms h w o m.number first n) cell_counted
+      ∙ ap (λ r. reduced r (counted_values terms h w o m.number first n)) same in
       λ i. cond (some_counted_is i) (answer_is i) None
 
 module _ (terms : Side → List ℕ → Terms) where

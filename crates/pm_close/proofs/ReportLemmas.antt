@@ -21,7 +21,8 @@ use Rattle.pm_close.specs.Reports.{AreParts, ReportStands, ReportReaches}
 
 module _ (terms : Side → List ℕ → Terms) (h : History) (w : Making) where
   -- some tick of two adjoining periods is counted
-  pub some_counted-add : (first a b : ℕ) → some_counted terms h w first (a + b) ≡ (some_counted terms h w first a || some_counted terms h w (first + a) b)
+  pub some_counted-add : (first a b : ℕ)
+      → some_counted terms h w first (a + b) ≡ (some_counted terms h w first a || some_counted terms h w (first + a) b)
   some_counted-add first a zero =
       let same : a + zero ≡ a = omega arith in
       ap (some_counted terms h w first) same ∙ sym (or_false (some_counted terms h w first a) false refl)
@@ -38,7 +39,8 @@ module _ (terms : Side → List ℕ → Terms) (h : History) (w : Making) where
       → AreParts terms h w t begin parts → AreParts terms h w t begin (parts ++ part ∷ [])
   AreParts-more t begin parts part is each k d lt =
       let long = length-append parts (part ∷ []) in
-      let Is : ℕ → PartValues → Type 0 = λ j p. IsPart terms h w (quantities_of t.measured) (begin + j * t.granularity) t.granularity p in
+      let Is : ℕ → PartValues → Type 0 = λ j p. IsPart terms h w (quantities_of t.measured)
+      (begin + j * t.granularity) t.granularity p in
       elim (cases_lt k (length parts)) [
         | inl below ↦ subst (Is k) (sym (get_or_append_left parts (part ∷ []) d k below)) (each k d below)
         | inr past ↦
@@ -47,7 +49,8 @@ module _ (terms : Side → List ℕ → Terms) (h : History) (w : Making) where
       ]
 
   -- a part that ended is added
-  pub reaches-part : (t : Terms) (tick : ℕ) (earlier : List PartValues) (old new : OpenReport) (period : Marks) (part : PartValues) (some : Bool)
+  pub reaches-part : (t : Terms) (tick : ℕ) (earlier : List PartValues) (old new : OpenReport) (period : Marks)
+      (part : PartValues) (some : Bool)
       → period.begin ≡ old.marks.begin → new.marks.begin ≡ old.marks.begin + t.granularity → new.marks.count ≡ 0
       → new.begin ≡ old.begin → new.earlier ≡ old.earlier
       → new.parts.items ≡ old.parts.items ++ part ∷ [] → new.counted ≡ (old.counted || some)
@@ -55,10 +58,13 @@ module _ (terms : Side → List ℕ → Terms) (h : History) (w : Making) where
       → IsPart terms h w (quantities_of t.measured) period.begin t.granularity part
       → some ≡ some_counted terms h w period.begin t.granularity
       → ReportStands terms h w t tick earlier old → ReportReaches terms h w t (tick + 1) earlier new
-  reaches-part t tick earlier old new period part some period_is marks_begin none begin_is earlier_is parts_are counted_is marks is some_is stand =
+  reaches-part t tick earlier old new period part some period_is marks_begin none begin_is earlier_is parts_are counted_is marks
+      is some_is stand =
       let before : List PartValues = earlier ++ old.parts.items in
-      let all : earlier ++ new.parts.items ≡ before ++ part ∷ [] = ap (λ ps. earlier ++ ps) parts_are ∙ sym (append_assoc earlier old.parts.items (part ∷ [])) in
-      let long : length (earlier ++ new.parts.items) ≡ suc (length before) = ap length all ∙ (length-append before (part ∷ []) ∙ omega arith) in
+      let all : earlier ++ new.parts.items ≡ before ++ part ∷ [] = ap (λ ps. earlier ++ ps) parts_are
+      ∙ sym (append_assoc earlier old.parts.items (part ∷ [])) in
+      let long : length (earlier ++ new.parts.items) ≡ suc (length before) = ap length all
+      ∙ (length-append before (part ∷ []) ∙ omega arith) in
       let product = suc-mul (length before) t.granularity in
       let at = stand.at in
       let first : period.begin ≡ old.begin + length before * t.granularity = period_is ∙ at in
@@ -78,7 +84,8 @@ module _ (terms : Side → List ℕ → Terms) (h : History) (w : Making) where
         parts =
             subst (λ b. AreParts terms h w t b (earlier ++ new.parts.items)) (sym begin_is)
             (subst (AreParts terms h w t old.begin) (sym all)
-            (AreParts-more t old.begin before part (subst (λ b. IsPart terms h w (quantities_of t.measured) b t.granularity part) first is) stand.parts));
+            (AreParts-more t old.begin before part
+            (subst (λ b. IsPart terms h w (quantities_of t.measured) b t.granularity part) first is) stand.parts));
         counted =
             counted_is
             ∙ ((λ i. stand.counted i || (some_is ∙ ap (λ b. some_counted terms h w b t.granularity) first) i)
@@ -88,7 +95,8 @@ module _ (terms : Side → List ℕ → Terms) (h : History) (w : Making) where
 
   -- no report ends where a part of the period is still missing
   pub not-due : (t : Terms) (tick : ℕ) (earlier : List PartValues) (report : OpenReport)
-      → length (earlier ++ report.parts.items) < t.parts → ReportReaches terms h w t tick earlier report → is_due terms h w t tick ≡ false
+      → length (earlier ++ report.parts.items) < t.parts → ReportReaches terms h w t tick earlier report
+      → is_due terms h w t tick ≡ false
   not-due t tick earlier report missing reaches =
       let n = length (earlier ++ report.parts.items) in
       let r = reporting t in
@@ -97,7 +105,8 @@ module _ (terms : Side → List ℕ → Terms) (h : History) (w : Making) where
       let begun = reaches.begun in
       let at = reaches.at in
       let reach = reaches.marks.reach in
-      let digits : x < t.granularity * t.parts = mul-add-lt n t.granularity report.marks.count t.parts missing reaches.marks.within in
+      let digits : x < t.granularity * t.parts = mul-add-lt n t.granularity report.marks.count t.parts missing
+      reaches.marks.within in
       let turned = mul_comm t.granularity t.parts in
       let less : x < r = omega (arith, digits, turned) in
       let tick_is : tick ≡ reaches.reports * r + x = omega (arith, begins, at, reach) in
@@ -131,7 +140,8 @@ module _ (terms : Side → List ℕ → Terms) (h : History) (w : Making) where
 
   -- where a report doesn't end, it stands
   pub reaches-stands : (t : Terms) (tick : ℕ) (earlier : List PartValues) (report : OpenReport)
-      → length (earlier ++ report.parts.items) < t.parts → ReportReaches terms h w t tick earlier report → ReportStands terms h w t tick earlier report
+      → length (earlier ++ report.parts.items) < t.parts → ReportReaches terms h w t tick earlier report
+      → ReportStands terms h w t tick earlier report
   reaches-stands t tick earlier report missing reaches = record {
     reports = reaches.reports;
     begins = reaches.begins;

@@ -52,7 +52,8 @@ get-rows slots h first (suc n) k p lt in_row =
     ]
 
 -- rows that no open period needs go from the front
-pub drop-rows : (slots : List SlotKey) (h : History) (first d n : ℕ) → drop (d * length slots) (rows_of slots h first (d + n)) ≡ rows_of slots h (first + d) n
+pub drop-rows : (slots : List SlotKey) (h : History) (first d n : ℕ)
+    → drop (d * length slots) (rows_of slots h first (d + n)) ≡ rows_of slots h (first + d) n
 drop-rows slots h first d zero =
     let same : d + zero ≡ d = omega arith in
     let long = length-rows slots h first d in
@@ -70,12 +71,15 @@ drop-rows slots h first d (suc n) =
     ∙ (λ i. rest i ++ row_at slots h (at i)))
 
 -- rows of two runs that adjoin, the second without a value
-pub rows-blank : (slots : List SlotKey) (h : History) (first n k : ℕ) → ((t : ℕ) → first + n ≤ t → t < first + n + k → row_at slots h t ≡ blank slots)
+pub rows-blank : (slots : List SlotKey) (h : History) (first n k : ℕ)
+    → ((t : ℕ) → first + n ≤ t → t < first + n + k → row_at slots h t ≡ blank slots)
     → rows_of slots h first (n + k) ≡ rows_of slots h first n ++ replicate (k * length slots) (cell_of [])
 rows-blank slots h first n zero none =
     let same : n + zero ≡ n = omega arith in
     let empty : zero * length slots ≡ 0 = omega arith in
-    ap (rows_of slots h first) same ∙ (sym (append-nil (rows_of slots h first n)) ∙ ap (λ m. rows_of slots h first n ++ replicate m (cell_of [])) (sym empty))
+    ap (rows_of slots h first) same
+    ∙ (sym (append-nil (rows_of slots h first n))
+    ∙ ap (λ m. rows_of slots h first n ++ replicate m (cell_of [])) (sym empty))
 rows-blank slots h first n (suc k) none =
     let w = length slots in
     let next : n + suc k ≡ suc (n + k) = omega arith in
@@ -90,7 +94,8 @@ rows-blank slots h first n (suc k) none =
     ∙ ap (λ m. rows_of slots h first n ++ replicate m (cell_of [])) all)))
 
 -- rows of two histories that agree on the ticks
-pub rows-same : (slots : List SlotKey) (g h : History) (first n : ℕ) → ((t : ℕ) → first ≤ t → t < first + n → row_at slots g t ≡ row_at slots h t)
+pub rows-same : (slots : List SlotKey) (g h : History) (first n : ℕ)
+    → ((t : ℕ) → first ≤ t → t < first + n → row_at slots g t ≡ row_at slots h t)
     → rows_of slots g first n ≡ rows_of slots h first n
 rows-same slots g h first zero same = refl
 rows-same slots g h first (suc n) same =

@@ -7,7 +7,8 @@ use Rattle.pm_history.specs.History.{History, last_moment}
 use Rattle.pm_close.specs.declared.cells.TickCells.{TickCells}
 use Rattle.pm_close.specs.Rows.{row_at, rows_of}
 
--- Kept cells stand for a history: they are the rows of all ticks from a first one up to that of the last moment, which is left out.
+-- Kept cells stand for a history: they are the rows of all ticks from a first one up to that of the last moment, which is left
+-- out.
 pub record CellsStand (slots : List SlotKey) (h : History) (kept : TickCells) : Type 0 where
   pub wide : kept.slots ≡ length slots
   pub reach : kept.first + kept.ticks ≡ tick_of (last_moment h)

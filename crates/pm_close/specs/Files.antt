@@ -23,7 +23,8 @@ group_with measured suspect values = record {
 -- The groups, each with its values.
 abbrev pub groups_with : List Measured → Bool → List (Option ℕ) → List Group
 groups_with [] suspect values = []
-groups_with (m ∷ ms) suspect values = group_with m suspect values ∷ groups_with ms suspect (drop (length (quantities_in m)) values)
+groups_with (m ∷ ms) suspect values = group_with m suspect values ∷ groups_with ms suspect
+    (drop (length (quantities_in m)) values)
 
 -- The part that begins with this tick.
 abbrev pub part_with : Terms → ℕ → PartValues → Part

@@ -14,16 +14,20 @@ use Rattle.pm_history.specs.Ticks.{behind}
 use Rattle.pm_history.specs.Standing.{Making, Standing, making_of, standing_after}
 use Rattle.pm_history.specs.Counted.{is_counted}
 use Rattle.pm_history.specs.Files.{file_of, files_at}
+use Rattle.pm_history.specs.Notices.{value_at}
+use Rattle.pm_history.specs.Value.{measured_value, is_suspect}
+use Rattle.pm_history.specs.declared.metric.Metric.{Metric}
 use Rattle.pm_close.specs.declared.cells.TickCells.{TickCells}
 use Rattle.pm_close.specs.declared.marks.Marks.{Marks}
 use Rattle.pm_close.specs.declared.part.PartValues.{PartValues}
 use Rattle.pm_close.specs.declared.report.Due.{Due}
 use Rattle.pm_close.specs.declared.report.OpenReport.{OpenReport}
 use Rattle.pm_close.specs.Cells.{CellsStand, AreOpen}
-use Rattle.pm_close.specs.Marks.{MarksStand}
+use Rattle.pm_close.specs.Marks.{MarksStand, PeriodStands}
 use Rattle.pm_close.specs.Values.{KnowsCells}
 use Rattle.pm_close.specs.Reports.{ReportStands, DueStands}
 use Rattle.pm_close.specs.Files.{report_with}
+use Rattle.pm_close.specs.Flags.{taken}
 
 -- Kept cells stand as well after an entry in the tick of the last moment.
 abbrev pub CellsStay : Type 0
@@ -55,7 +59,8 @@ pub record CellsKnown : Type 0 where
 -- What is kept of a job stands as well after any entry.
 abbrev pub ReportsStay : Type 0
 ReportsStay =
-    (terms : Side → List ℕ → Terms) (h : History) (e : Entry) (w : Making) (t : Terms) (tick : ℕ) (earlier : List PartValues) (report : OpenReport)
+    (terms : Side → List ℕ → Terms) (h : History) (e : Entry) (w : Making) (t : Terms) (tick : ℕ) (earlier : List PartValues)
+    (report : OpenReport)
     → last_moment h ≤ moment_of e → tick ≤ tick_of (last_moment h)
     → ReportStands terms h w t tick earlier report → ReportStands terms (h ▷ e) w t tick earlier report
 
@@ -67,22 +72,34 @@ DueIsFile =
     → file_of terms h id end (Some s)
     ≡ (if due.counted then report_with id (terms Job s.body) due.begin (earlier ++ due.parts.items) ∷ [] else [])
 
--- Where there are no files: at an end at which each reporting period lies wholly in a stretch of ticks that aren't counted; so of the
+-- A value sequence takes of a granularity period that ends its value, unless that is null or suspect.
+abbrev pub SequencesTakeValues : Type 0
+SequencesTakeValues =
+    (terms : Side → List ℕ → Terms) (h : History) (w : Making) (granularity object : ℕ) (m : Metric) (end : ℕ) (period : Marks)
+    → PeriodStands terms h w granularity end period
+    → value_at terms h w granularity object m end
+    ≡ taken (measured_value terms h w object m period.begin granularity) (is_suspect terms h w period.begin granularity)
+
+-- Where there are no files: at an end at which each reporting period lies wholly in a stretch of ticks that aren't counted; so
+-- of the
 -- ends that come with a Boot, a job has a file at most at that of the reporting period that was open.
 pub record GapsHaveNoFiles : Type 0 where
   pub stretch : (terms : Side → List ℕ → Terms) (h : History) (end a b : ℕ)
       → ((w : Making) (t : ℕ) → a ≤ t → t < b → is_counted terms h w t ≡ false)
-      → ((id : List ℕ) (s : Standing) → standing_after terms Job (before (60 * end) h) id ≡ Some s → a + reporting (terms Job s.body) ≤ end)
+      → ((id : List ℕ) (s : Standing) → standing_after terms Job (before (60 * end) h) id ≡ Some s
+      → a + reporting (terms Job s.body) ≤ end)
       → end ≤ b
       → files_at terms h end ≡ []
-  pub item : (terms : Side → List ℕ → Terms) (h : History) (m : ℕ) (id : List ℕ) (end periods ends : ℕ) (s : Standing) → 0 < size h
+  pub item : (terms : Side → List ℕ → Terms) (h : History) (m : ℕ) (id : List ℕ) (end periods ends : ℕ) (s : Standing)
+      → 0 < size h
       → periods * reporting (terms Job s.body) ≤ tick_of (last_moment h)
       → end ≡ ends * reporting (terms Job s.body) → suc (suc periods) ≤ ends
       → tick_of (last_moment h) < suc periods * reporting (terms Job s.body)
       → end ≤ tick_of m
       → file_of terms (h ▷ Boot m) id end (Some s) ≡ []
   pub all : (terms : Side → List ℕ → Terms) (h : History) (m late k : ℕ) → 0 < size h
-      → ((id : List ℕ) (s : Standing) (end : ℕ) → late < end → end ≤ late + k → standing_after terms Job (before (60 * end) (h ▷ Boot m)) id ≡ Some s
+      → ((id : List ℕ) (s : Standing) (end : ℕ) → late < end → end ≤ late + k
+      → standing_after terms Job (before (60 * end) (h ▷ Boot m)) id ≡ Some s
       → tick_of (last_moment h) + reporting (terms Job s.body) ≤ end)
       → late + k ≤ tick_of m
       → behind (files_at terms (h ▷ Boot m)) late k ≡ []

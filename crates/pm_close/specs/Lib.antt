@@ -5,4 +5,5 @@ pub mod Values
 pub mod Parts
 pub mod Reports
 pub mod Files
+pub mod Flags
 pub mod Laws

@@ -34,7 +34,8 @@ quantities_of measured = flat_map quantities_in measured
 -- A measure reads a quantity: its slot counts it, and it reduces as the metric does.
 pub record Reads (slots : List SlotKey) (measure : Measure) (quantity : Quantity) : Type 0 where
   pub within : measure.slot < length slots
-  pub slot : (d : SlotKey) → slice_index_or slots measure.slot d ≡ record { object = quantity.object; metric = quantity.metric.number }
+  pub slot : (d : SlotKey) → slice_index_or slots measure.slot d ≡ record
+      { object = quantity.object; metric = quantity.metric.number }
   pub reduce : quantity.metric.reduce ≡ measure.reduce
 
 -- What stands past the end of measures, or of quantities.
@@ -56,7 +57,8 @@ pub record ReadEach (slots : List SlotKey) (measures : List Measure) (quantities
 -- Answers are the values of the measures at their places.
 abbrev pub AreValues : TickCells → List Cell → List Measure → Marks → List (Option ℕ) → Type 0
 AreValues kept row measures period answers =
-    (k : ℕ) → k < length answers → IsValue kept row (measure_at measures k).slot period (measure_at measures k).reduce (slice_index_or answers k None)
+    (k : ℕ) → k < length answers → IsValue kept row (measure_at measures k).slot period (measure_at measures k).reduce
+    (slice_index_or answers k None)
 
 -- The slots of measures are among so many.
 abbrev pub AreWithin : ℕ → List Measure → Type 0

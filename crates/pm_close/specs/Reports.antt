@@ -16,11 +16,14 @@ module _ (terms : Side → List ℕ → Terms) where
   -- The parts of adjoining granularity periods, the first of which begins with this tick.
   abbrev pub AreParts : History → Making → Terms → ℕ → List PartValues → Type 0
   AreParts h w t begin parts =
-      (k : ℕ) (d : PartValues) → k < length parts → IsPart terms h w (quantities_of t.measured) (begin + k * t.granularity) t.granularity (slice_index_or parts k d)
+      (k : ℕ) (d : PartValues) → k < length parts
+      → IsPart terms h w (quantities_of t.measured) (begin + k * t.granularity) t.granularity (slice_index_or parts k d)
 
   -- What is kept of a job stands for a history up to a tick, which is left out: the parts of its open reporting period that are
-  -- finished, of which some ended earlier and are kept elsewhere; whether some tick of them is counted; and the marks of what came after.
-  pub record ReportStands (h : History) (w : Making) (t : Terms) (tick : ℕ) (earlier : List PartValues) (report : OpenReport) : Type 0 where
+  -- finished, of which some ended earlier and are kept elsewhere; whether some tick of them is counted; and the marks of what
+  -- came after.
+  pub record ReportStands (h : History) (w : Making) (t : Terms) (tick : ℕ) (earlier : List PartValues)
+      (report : OpenReport) : Type 0 where
     pub reports : ℕ
     pub begins : report.begin ≡ reports * reporting t
     pub earlier_are : report.earlier ≡ length earlier
@@ -31,7 +34,8 @@ module _ (terms : Side → List ℕ → Terms) where
     pub counted : report.counted ≡ some_counted terms h w report.begin (length (earlier ++ report.parts.items) * t.granularity)
 
   -- The same where the last granularity period of the reporting period may have ended with the tick before this one.
-  pub record ReportReaches (h : History) (w : Making) (t : Terms) (tick : ℕ) (earlier : List PartValues) (report : OpenReport) : Type 0 where
+  pub record ReportReaches (h : History) (w : Making) (t : Terms) (tick : ℕ) (earlier : List PartValues)
+      (report : OpenReport) : Type 0 where
     pub reports : ℕ
     pub begins : report.begin ≡ reports * reporting t
     pub earlier_are : report.earlier ≡ length earlier

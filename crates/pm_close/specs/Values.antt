@@ -25,7 +25,8 @@ known_cell kept row slot tick =
 -- From the first kept tick on, what is known of a tick that no Boot cuts is its cells.
 pub record KnowsCells (slots : List SlotKey) (h : History) (kept : TickCells) (row : List Cell) : Type 0 where
   pub wide : kept.slots ≡ length slots
-  pub known : (slot tick : ℕ) (key : SlotKey) → slot < length slots → slice_index_or slots slot key ≡ key → kept.first ≤ tick → is_cut h tick ≡ false
+  pub known : (slot tick : ℕ) (key : SlotKey) → slot < length slots → slice_index_or slots slot key ≡ key → kept.first ≤ tick
+      → is_cut h tick ≡ false
       → known_cell kept row slot tick ≡ tick_cell h tick key
 
 -- The merge of the cells of a run of ticks that pass a test.
@@ -41,7 +42,8 @@ IsCovered kept period = (k : ℕ) → k < period.count → period.begin + k < ke
 -- An answer is the value over the period, in each history in which the cells are known and the marks say which ticks are counted.
 abbrev pub IsValue : TickCells → List Cell → ℕ → Marks → Reduce → Option ℕ → Type 0
 IsValue kept row slot period reduce answer =
-    (terms : Side → List ℕ → Terms) (slots : List SlotKey) (h : History) (w : Making) (key : SlotKey) (metric : Metric) (granularity end : ℕ)
+    (terms : Side → List ℕ → Terms) (slots : List SlotKey) (h : History) (w : Making) (key : SlotKey) (metric : Metric)
+    (granularity end : ℕ)
     → KnowsCells slots h kept row → slice_index_or slots slot key ≡ key → metric.number ≡ key.metric → metric.reduce ≡ reduce
     → PeriodStands terms h w granularity end period
     → answer ≡ measured_value terms h w key.object metric period.begin granularity

@@ -1,5 +1,5 @@
 //! What holds of kept cells and of marks over every history.
-ghost use Rattle.pm_close.specs.Laws.{BootCountsNone, CellsKnown, CellsStay, DueIsFile, GapsHaveNoFiles, MarksStay, ReportsStay};
+ghost use Rattle.pm_close.specs.Laws.{BootCountsNone, CellsKnown, CellsStay, DueIsFile, GapsHaveNoFiles, MarksStay, ReportsStay, SequencesTakeValues};
 
 /// An entry in the tick of the last moment leaves what is kept. A law: the call does nothing.
 pub fn cells_stay()
@@ -34,4 +34,9 @@ pub fn reports_stay()
 /// The parts of a report that is due make the file of its reporting period. A law: the call does nothing.
 pub fn due_is_file()
     ensures { DueIsFile }
+{}
+
+/// What a value sequence takes of a granularity period. A law: the call does nothing.
+pub fn sequences_take_values()
+    ensures { SequencesTakeValues }
 {}

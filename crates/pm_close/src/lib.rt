@@ -2,6 +2,7 @@
 #![tactic(auto)]
 
 mod cells;
+mod flags;
 mod law;
 mod limits;
 mod marks;
@@ -15,9 +16,10 @@ mod values;
 mod within;
 
 pub use cells::TickCells;
+pub use flags::watch_period;
 pub use law::{
     boot_counts_none, cells_known, cells_stay, due_is_file, gaps_have_no_files, marks_stay,
-    reports_stay,
+    reports_stay, sequences_take_values,
 };
 pub use limits::{MOST_EVENTS, MOST_TICKS};
 pub use marks::{Marks, counts};

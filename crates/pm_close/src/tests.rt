@@ -1,7 +1,10 @@
 //! Ticks that end by hand: what periods give, and how much a gap costs.
 
-use crate::{Due, Marks, Measure, OpenReport, TickCells, are_small, are_within, counts};
+use crate::{
+    Due, Marks, Measure, OpenReport, TickCells, are_small, are_within, counts, watch_period,
+};
 use pm_meas::{Cell, Reduce};
+use pm_thresh::{Direction, Watch};
 use std::alloc::Global;
 use std::process::Abort;
 use std::test::Fail;
@@ -165,4 +168,15 @@ fn a_period_ends_with_its_last_tick(rt: HostRuntime) {
         assert!(rt; period.is_some_counted() && period.is_suspect());
     }
     assert_eq!(rt; (marks.begin(), marks.count()), (33, 0));
+}
+
+#[test]
+fn a_suspect_value_is_none_of_a_sequence(rt: HostRuntime) {
+    let mut watch = Watch::new(10, 10, true, false);
+    assert_eq!(rt; watch_period(&mut watch, Some(12), true), None);
+    assert_eq!(rt; watch_period(&mut watch, None, false), None);
+    assert_eq!(rt;
+        watch_period(&mut watch, Some(12), false),
+        Some(Direction::Up)
+    );
 }

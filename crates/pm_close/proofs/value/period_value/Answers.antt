@@ -9,5 +9,6 @@ returns c =
     ∙ value_by-period c.args.kept.now c.args.row.now c.args.slot c.args.period.now c.args.reduce
     c.merge_counted-cell.result c.is_some_counted-some.result c.reduce-value.result
     terms slots h w key metric granularity end
-    c.requires.slot c.requires.covered c.is_some_counted-some.ensures.marks c.merge_counted-cell.ensures c.reduce-value.ensures.fold
+    c.requires.slot c.requires.covered c.is_some_counted-some.ensures.marks c.merge_counted-cell.ensures
+    c.reduce-value.ensures.fold
     knows at number same stand

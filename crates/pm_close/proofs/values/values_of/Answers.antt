@@ -14,6 +14,7 @@ loop-k-preserved c =
           ∙ (length-append c.loop-k.values.items (c.period_value.result ∷ []) ∙ ap (λ n. n + 1) before.as_many);
       each =
           subst (AreValues c.args.kept.now c.args.row.now c.args.measures.now c.args.period.now) (sym pushed.items)
-          (AreValues-more c.args.kept.now c.args.row.now c.args.measures.now c.args.period.now c.loop-k.values.items c.period_value.result c.loop-k.k
+          (AreValues-more c.args.kept.now c.args.row.now c.args.measures.now c.args.period.now c.loop-k.values.items
+          c.period_value.result c.loop-k.k
           before.as_many c.period_value.ensures before.each);
     }

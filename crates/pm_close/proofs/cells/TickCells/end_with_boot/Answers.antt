@@ -7,7 +7,8 @@ returns-clause-stands c =
     λ slots h m is later at old.
     let forgot = c.forget_before.ensures in
     let added = c.add_blank.ensures in
-    let kept = stand-forgotten slots h c.args.from c.args.self.now c.forget_before.new.self forgot.slots forgot.first forgot.ticks forgot.cells old in
+    let kept = stand-forgotten slots h c.args.from c.args.self.now c.forget_before.new.self forgot.slots forgot.first
+    forgot.ticks forgot.cells old in
     let reach = old.reach in
     let now = c.requires.later in
     let from = c.requires.from in

@@ -10,5 +10,6 @@ returns c =
       values =
           values-are c.args.kept.now c.args.row.now c.args.measures.now c.args.period.now c.in_ok-values.values.items
           terms slots h w quantities granularity end c.in_ok-values.ensures.each c.in_ok-values.ensures.as_many knows reads stand;
-      suspect = c.is_suspect-suspect.ensures.counted terms h w stand.counted ∙ ap (is_suspect terms h w c.args.period.now.begin) stand.whole;
+      suspect = c.is_suspect-suspect.ensures.counted terms h w stand.counted
+          ∙ ap (is_suspect terms h w c.args.period.now.begin) stand.whole;
     }

@@ -14,7 +14,8 @@ returns-in_ok-add-clause-reaches c =
     let period = c.in-Some.period in
     let before = subst (λ g. MarksStand terms h w g tick c.args.self.now.marks) same stand.marks in
     let whole = ended.period terms h w tick before mark in
-    let after = subst (λ g. MarksStand terms h w g (tick + 1) c.end_tick.new.self) (sym same) (ended.stands terms h w tick before mark) in
+    let after = subst (λ g. MarksStand terms h w g (tick + 1) c.end_tick.new.self) (sym same)
+    (ended.stands terms h w tick before mark) in
     let part = subst (λ g. IsPart terms h w (quantities_of t.measured) period.begin g c.in_ok-part.part) (sym same)
     (c.in_ok-part.ensures terms slots h w (quantities_of t.measured) c.args.granularity (tick + 1) knows reads whole) in
     let marks = added.marks in
@@ -26,5 +27,6 @@ returns-in_ok-add-clause-reaches c =
     added.begin added.earlier added.parts added.counted
     (subst (MarksStand terms h w t.granularity (tick + 1)) (sym marks) after)
     part
-    (c.is_some_counted.ensures.counted terms h w whole.counted ∙ ap (some_counted terms h w period.begin) (whole.whole ∙ sym same))
+    (c.is_some_counted.ensures.counted terms h w whole.counted
+    ∙ ap (some_counted terms h w period.begin) (whole.whole ∙ sym same))
     stand

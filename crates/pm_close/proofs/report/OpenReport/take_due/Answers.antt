@@ -11,8 +11,12 @@ returns-then-self-len-clause-due c =
     let before = reaches.earlier_are in
     let own = c.len.ensures in
     let held = c.args.self.now.parts.ok in
-    let missing : length (earlier ++ c.args.self.now.parts.items) < t.parts = omega (arith, all, before, own, held, parts, c.if-self-len.true) in
-    (reaches-stands terms h w t tick earlier c.args.self.now missing reaches, not-due terms h w t tick earlier c.args.self.now missing reaches)
+    let missing : length (earlier ++ c.args.self.now.parts.items) < t.parts = omega
+    (arith, all, before, own, held, parts, c.if-self-len.true) in (
+      reaches-stands terms h w t tick earlier c.args.self.now missing reaches,
+      not-due terms h w t tick earlier c.args.self.now
+          missing reaches,
+    )
 
 pub returns-clause-due : goal.returns-clause-due
 returns-clause-due c =
@@ -22,10 +26,12 @@ returns-clause-due c =
     let own = c.len.ensures in
     let held = c.args.self.now.parts.ok in
     let no_more = reaches.no_more in
-    let whole : length (earlier ++ c.args.self.now.parts.items) ≡ t.parts = omega (arith, all, before, own, held, parts, no_more, c.if-self-len.false) in
+    let whole : length (earlier ++ c.args.self.now.parts.items) ≡ t.parts = omega
+    (arith, all, before, own, held, parts, no_more, c.if-self-len.false) in
     let due = report-due terms h w t tick earlier c.args.self.now whole reaches in
     let same = ap (λ v. v.items) c.replace.ensures.value in (
-      next-stands terms h w t tick earlier c.args.self.now _ whole c.begin-self.ensures refl (ap (λ v. v.items) c.replace.ensures.after ∙ c.new.ensures.items) refl refl reaches,
+      next-stands terms h w t tick earlier c.args.self.now _ whole c.begin-self.ensures refl
+          (ap (λ v. v.items) c.replace.ensures.after ∙ c.new.ensures.items) refl refl reaches,
       record {
         ends = due.0;
         whole = ap (λ ps. length (earlier ++ ps)) same ∙ whole;

@@ -17,5 +17,6 @@ returns-clause-stands c =
     (made.as_many ∙ (λ i. tick % length_is i / sym granularity i))
     (subst (λ n. AreNull n c.in_ok-null_parts.field-0.items) (sym values) made.null)
     (c.unmarked.ensures.begin ∙ ap (λ g. tick - tick % g) (sym granularity))
-    (λ uncounted. subst (λ g. MarksStand terms h w g tick c.unmarked.result) (sym granularity) (c.unmarked.ensures.stands terms h w uncounted))
+    (λ uncounted. subst (λ g. MarksStand terms h w g tick c.unmarked.result) (sym granularity)
+    (c.unmarked.ensures.stands terms h w uncounted))
     none
