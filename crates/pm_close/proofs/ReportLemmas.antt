@@ -2,7 +2,7 @@
 use Rattle.std.proofs.Common.{◌≡◌, ◌≢◌, ℕ, zero, suc, ◌+◌, ◌-◌, ◌*◌, ◌%◌, ◌<◌, Bool, true, false, ◌&&◌, ◌||◌, leb, eqb, List, [], ◌∷◌, ◌++◌, length, refl, sym, ap, subst, ◌∙◌, arith, inl, inr, suc-mul, append_assoc, le-leb}
 use Rattle.std.proofs.lemmas.Bool.{cases_lt, ne_eqb, eq-eqb, and_left, and_right}
 use Rattle.std.proofs.lemmas.Nat.{mul-add-lt}
-use Rattle.std.proofs.lemmas.List.{get_or_append_left, get_or_push, length-append}
+use Rattle.std.proofs.lemmas.List.{get_or_append_left, get_or_push, length-append, append-nil}
 use Rattle.std.proofs.Math.Bool.{or_assoc}
 use Rattle.std.proofs.Math.Nat.{mul_comm, mul-mod_left, mul-add-mod_self_right, mod-eq_of_lt}
 use Rattle.pm_history.specs.declared.entry.Side.{Side}
@@ -185,4 +185,31 @@ module _ (terms : Side → List ℕ → Terms) (h : History) (w : Making) where
             ];
         parts = λ k d lt. absurd (omega (arith, lt, no_parts));
         counted = counted_is ∙ ap (some_counted terms h w new.begin) (sym no_ticks);
+      }
+
+  -- a plan goes on where what is kept stands
+  pub planned-stands : (t : Terms) (tick : ℕ) (old new : OpenReport)
+      → new.begin ≡ old.begin → new.earlier ≡ length old.parts.items → new.parts.items ≡ [] → new.counted ≡ old.counted
+      → new.marks ≡ old.marks
+      → ReportStands terms h w t tick [] old → ReportStands terms h w t tick old.parts.items new
+  planned-stands t tick old new begin_is earlier_is parts_are counted_is marks_are stand =
+      let kept : List PartValues = old.parts.items in
+      let all : kept ++ new.parts.items ≡ kept = ap (λ ps. kept ++ ps) parts_are ∙ append-nil kept in
+      let long = ap length all in
+      let ticks : length (kept ++ new.parts.items) * t.granularity ≡ length kept * t.granularity = ap (λ n. n * t.granularity)
+      long in
+      let at = stand.at in
+      let unfinished = stand.unfinished in
+      let marks_begin : new.marks.begin ≡ old.marks.begin = ap (λ (m : Marks). m.begin) marks_are in
+      record {
+        reports = stand.reports;
+        begins = begin_is ∙ stand.begins;
+        earlier_are = earlier_is;
+        marks = subst (MarksStand terms h w t.granularity tick) (sym marks_are) stand.marks;
+        at = omega (arith, marks_begin, at, begin_is, ticks);
+        unfinished = omega (arith, unfinished, long);
+        parts =
+            subst (λ b. AreParts terms h w t b (kept ++ new.parts.items)) (sym begin_is)
+            (subst (AreParts terms h w t old.begin) (sym all) stand.parts);
+        counted = counted_is ∙ (stand.counted ∙ (λ i. some_counted terms h w (sym begin_is i) (sym ticks i)));
       }

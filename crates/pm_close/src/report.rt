@@ -29,7 +29,7 @@ pub struct OpenReport {
     // Whether some tick of a finished part is counted.
     counted: bool,
     marks: Marks,
-    ghost few: { earlier < 2 ^ 32 },
+    ghost few: { earlier < 2 ^ 63 },
 }
 
 /// A report that ended: its parts after the earlier ones, and whether there is a file of it.
@@ -78,6 +78,21 @@ impl OpenReport {
             counted: false,
             marks: Marks::unmarked(granularity, tick),
         })
+    }
+
+    /// What goes on from here, as a plan: the finished parts stay where they are, as earlier ones.
+    pub fn plan(&self, alloc: Global) -> OpenReport
+        ensures stands { (terms : Side → List ℕ → Terms) (h : History) (w : Making) (t : Terms) (tick : ℕ)
+            → ReportStands terms h w t tick [] self.now → ReportStands terms h w t tick self.now.parts.items result }
+        ensures marks { result.marks ≡ self.now.marks }
+    {
+        OpenReport {
+            begin: self.begin,
+            earlier: self.parts.len() as u64,
+            parts: Vec::new(alloc),
+            counted: self.counted,
+            marks: self.marks,
+        }
     }
 
     /// The marks of the open granularity period.
