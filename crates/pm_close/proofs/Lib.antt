@@ -1,0 +1,15 @@
+pub mod RowLemmas
+pub mod EndLemmas
+pub mod SmallLemmas
+pub mod StandLemmas
+pub mod StayLemmas
+pub mod MarkLemmas
+pub mod MergeLemmas
+pub mod PeriodLemmas
+pub mod KnownLemmas
+pub mod PartLemmas
+pub mod ReportLemmas
+pub mod GapLemmas
+pub mod NullLemmas
+pub mod FileLemmas
+pub mod FlagLemmas
