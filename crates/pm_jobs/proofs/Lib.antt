@@ -1,3 +1,16 @@
 pub mod EachLemmas
 pub mod MemberLemmas
 pub mod WritingLemmas
+pub mod ItemLemmas
+pub mod IdLemmas
+pub mod StandsLemmas
+pub mod EnactLemmas
+pub mod MarkLemmas
+pub mod PlaceLemmas
+pub mod StepLemmas
+pub mod NumberedLemmas
+pub mod FindLemmas
+pub mod BackLemmas
+pub mod PermittedLemmas
+pub mod PlacesWithinLemmas
+pub mod MadeLemmas

@@ -1,5 +1,5 @@
 -- The members of an object, as the definitions walk them.
-use Rattle.std.proofs.Common.{◌≡◌, ℕ, ◌&&◌, Bool, true, false, List, [], ◌∷◌, ap, refl, string_bytes, bytes_eq, String, Bor, map, drop, get_or, length, ◌<◌, ◌+◌, drop-cons, add-one}
+use Rattle.std.proofs.Common.{◌≡◌, ℕ, ◌&&◌, true, false, List, [], ◌∷◌, ap, refl, string_bytes, bytes_eq, String, Bor, map, drop, get_or, length, ◌<◌, ◌+◌, drop-cons, add-one}
 use Rattle.std.specs.declared.alloc.Global.{Global}
 use Rattle.std.specs.List.{list_any, list_all}
 use Rattle.std.specs.Map.{keys_of}

@@ -25,3 +25,6 @@ printed d empty first last bytes text is before tokens written kept taken same =
     let all : last.tokens ≡ json_tokens (outline d) = written ∙ ap (λ ts. ts ++ json_tokens (outline d)) tokens in
     let none : last.before ≡ [] = kept ∙ before ∙ is in
     same ∙ taken ∙ rw (none, all) (print-outline d)
+
+pub is_all : (d : Data) (first last : Written) → first.tokens ≡ [] → last.tokens ≡ first.tokens ++ json_tokens (outline d) → last.tokens ≡ json_tokens (outline d)
+is_all d first last none written = written ∙ ap (λ ts. ts ++ json_tokens (outline d)) none

@@ -1,3 +1,13 @@
 pub mod Content
 pub mod Fields
 pub mod Reading
+pub mod Asked
+pub mod State
+pub mod Rules
+pub mod Stands
+pub mod Plan
+pub mod Wanted
+pub mod Marks
+pub mod Places
+pub mod Numbered
+pub mod Shown

@@ -1,8 +1,9 @@
 //! The canonical texts of bodies: all keys, in byte order.
-ghost use Rattle.std.specs.Prelude.{◌≡◌, IfOk, map, string_bytes};
+ghost use Rattle.std.specs.Prelude.{◌≡◌, IfOk, Some, map, string_bytes};
 ghost use Rattle.serde_json.specs.Data.{array, string};
 ghost use Rattle.pm_form.specs.Says.{Appends};
-ghost use Rattle.pm_asked.specs.Body.{text_items, state_text, directions_text, job_tree, job_text, threshold_tree, threshold_items, monitor_tree, monitor_text};
+ghost use Rattle.pm_asked.specs.Body.{text_items, state_text, directions_text, job_tree, job_text, threshold_tree, threshold_items, monitor_tree, monitor_text, IsJobBody, IsMonitorBody};
+ghost use Rattle.pm_asked.specs.BodyReading.{job_body, monitor_body};
 ghost use Rattle.pm_jobs.specs.Content.{is_unlocked, directions_content, job_content, threshold_content, monitor_content};
 
 use crate::{Directions, JobBody, MonitorBody, State, Threshold};
@@ -103,7 +104,10 @@ fn write_monitor(out: &mut Writer, body: &MonitorBody) -> Result<(), AllocError>
 impl JobBody {
     /// The canonical text.
     pub fn to_bytes(&self, alloc: Global) -> Result<Blob, AllocError>
-        ensures { IfOk result (λ text. text ≡ job_text (job_content self.now)) }
+        ensures text { IfOk result (λ text. text ≡ job_text (job_content self.now)) }
+
+        // It says the body.
+        ensures back { IsJobBody (job_content self.now) → IfOk result (λ text. job_body text ≡ Some (job_content self.now)) }
     {
         let mut out = Writer::new(Vec::new(alloc));
         write_job(&mut out, self)?;
@@ -114,7 +118,10 @@ impl JobBody {
 impl MonitorBody {
     /// The canonical text.
     pub fn to_bytes(&self, alloc: Global) -> Result<Blob, AllocError>
-        ensures { IfOk result (λ text. text ≡ monitor_text (monitor_content self.now)) }
+        ensures text { IfOk result (λ text. text ≡ monitor_text (monitor_content self.now)) }
+
+        // It says the body.
+        ensures back { IsMonitorBody (monitor_content self.now) → IfOk result (λ text. monitor_body text ≡ Some (monitor_content self.now)) }
     {
         let mut out = Writer::new(Vec::new(alloc));
         write_monitor(&mut out, self)?;

@@ -1,6 +1,4 @@
-use Rattle.std.proofs.Common.{sym, ◌∙◌, arith, length, ◌<◌, ◌≤◌}
-use Rattle.serde_json.specs.Find.{as_array}
-use Rattle.serde_json.specs.View.{view}
+use Rattle.std.proofs.Common.{◌∙◌, arith, length, ◌<◌, ◌≤◌}
 use Rattle.std.proofs.lemmas.Result.{IfOk-weaker}
 use Rattle.pm_jobs.proofs.EachLemmas.{texts_each, list_in, list_short, list_long}
 use Rattle.pm_jobs.proofs.fields.texts_from.Goals as goal

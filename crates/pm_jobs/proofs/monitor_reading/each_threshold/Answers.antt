@@ -1,5 +1,4 @@
-use Rattle.std.proofs.Common.{rules, ◌≡◌, List, [], ◌∷◌, ◌++◌, sym, ap, ◌∙◌}
-use Rattle.std.proofs.lemmas.Grind.{common_steps}
+use Rattle.std.proofs.Common.{rules, ◌≡◌, [], ◌∷◌, ◌++◌, sym, ap, ◌∙◌}
 use Rattle.serde_json.specs.View.{view}
 use Rattle.pm_asked.specs.BodyReading.{threshold_of}
 use Rattle.pm_jobs.proofs.EachLemmas.{thresholds_step}

@@ -1,4 +1,4 @@
-use Rattle.std.proofs.Common.{sym, ◌∙◌, arith, length, ◌<◌, ◌≤◌}
+use Rattle.std.proofs.Common.{◌∙◌, arith, length, ◌<◌, ◌≤◌}
 use Rattle.std.proofs.lemmas.Bool.Decides.{nat_tests}
 use Rattle.std.proofs.lemmas.Result.{IfOk-weaker}
 use Rattle.pm_jobs.proofs.EachLemmas.{thresholds_each, list_in, list_short, list_long}
