@@ -7,3 +7,5 @@ pub mod WriteLemmas
 pub mod NameLemmas
 pub mod KeptLemmas
 pub mod NumberLemmas
+pub mod UsualLemmas
+pub mod UsualTextLemmas
