@@ -8,4 +8,6 @@ pub mod NameLemmas
 pub mod KeptLemmas
 pub mod NumberLemmas
 pub mod UsualLemmas
+pub mod UsualListLemmas
+pub mod UsualNumberLemmas
 pub mod UsualTextLemmas

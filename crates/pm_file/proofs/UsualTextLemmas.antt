@@ -33,7 +33,8 @@ usual_read form levels room kept a bytes leads =
     ap closed (ap (json.value max_depth) leads.first ∙ value-json_tokens (outline d) max_depth [] deep) ∙ kept.same a leads.fits
 
 -- the tree of such a text
-pub usual_tree : (r : ReportContent) (bytes : List ℕ) (reader rest : List Token) → IsUtf8 bytes → reader ≡ tokens bytes → rest ≡ []
+pub usual_tree : (r : ReportContent) (bytes : List ℕ) (reader rest : List Token) → IsUtf8 bytes → reader ≡ tokens bytes
+    → rest ≡ []
     → Leads body_form r reader rest → json_of bytes ≡ Ok (body_form.tree r)
 usual_tree r bytes reader rest utf8 is end leads =
     json_of_read bytes (body_form.tree r) utf8 (usual_read body_form 8 (lit≤ tt) body_kept r bytes (rw (is, end) at leads))
@@ -48,7 +49,8 @@ unfolding is_permitted
 fits_of r e = e
 
 -- the tree of a permitted report says the report
-pub usual_says : (r : ReportContent) (bytes : List ℕ) → json_of bytes ≡ Ok (body_form.tree r) → is_permitted r ≡ true → text_says report_form bytes ≡ Ok r
+pub usual_says : (r : ReportContent) (bytes : List ℕ) → json_of bytes ≡ Ok (body_form.tree r) → is_permitted r ≡ true
+    → text_says report_form bytes ≡ Ok r
 unfolding report_form
 usual_says r bytes is permitted =
     let then : Read Data → Read ReportContent = λ d. then_read d report_form.reads in

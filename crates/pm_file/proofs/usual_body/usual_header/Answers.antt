@@ -18,4 +18,8 @@ returns c =
     let s2 = then_tree (moment.tree c.in_ok-begin.begin) c.in_ok-begin.ensures.first s3 in
     let s1 = then_token (key (codes "beginTime")) c.in_ok-take_key.ensures s2 in
     let s0 = then_token (begin_object) c.in_ok-take_object.ensures s1 in
-    record { first = s0.is; fits = and _ _ c.in_ok-begin.ensures.fits (and _ _ refl (and _ _ c.in_ok-job.ensures.fits c.in_ok-sender.ensures.fits)) }
+    record {
+      first = s0.is;
+      fits = and _ _ c.in_ok-begin.ensures.fits
+          (and _ _ refl (and _ _ c.in_ok-job.ensures.fits c.in_ok-sender.ensures.fits));
+    }

@@ -1,7 +1,7 @@
 use Rattle.std.proofs.Common.{map, length, ℕ}
 use Rattle.pm_file.specs.Reading.{read_part_content}
 use Rattle.pm_file.specs.ReportForm.{part_form}
-use Rattle.pm_file.proofs.UsualLemmas.{AreRead}
+use Rattle.pm_file.proofs.UsualListLemmas.{AreRead}
 use Rattle.pm_file.proofs.usual_body.usual_parts.Given as goal
 
 abbrev pub invariant-loop-alloc : goal.invariant-loop-alloc

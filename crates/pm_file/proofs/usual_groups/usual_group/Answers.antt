@@ -18,4 +18,8 @@ returns c =
     let s2 = then_tree ((list_of type_form).tree c.in_ok-types.types.items) c.in_ok-types.ensures.first s3 in
     let s1 = then_token (key (codes "measTypes")) c.in_ok-take_key.ensures s2 in
     let s0 = then_token (begin_object) c.in_ok-take_object.ensures s1 in
-    record { first = s0.is; fits = and _ _ c.in_ok-types.ensures.fits (and _ _ c.in_ok-rows.ensures.fits c.in_ok-class.ensures.fits) }
+    record {
+      first = s0.is;
+      fits = and _ _ c.in_ok-types.ensures.fits
+          (and _ _ c.in_ok-rows.ensures.fits c.in_ok-class.ensures.fits);
+    }

@@ -1,6 +1,6 @@
 use Rattle.std.proofs.Common.{map, length, ℕ}
 use Rattle.pm_file.specs.ReportForm.{type_form}
-use Rattle.pm_file.proofs.UsualLemmas.{AreRead}
+use Rattle.pm_file.proofs.UsualListLemmas.{AreRead}
 use Rattle.pm_file.proofs.usual_groups.usual_types.Given as goal
 
 abbrev pub invariant-loop-alloc : goal.invariant-loop-alloc
