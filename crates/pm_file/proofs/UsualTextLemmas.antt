@@ -1,5 +1,5 @@
 -- A text whose tokens are those of a value's tree, and nothing after them.
-use Rattle.std.proofs.Common.{◌≡◌, ℕ, ◌≤◌, ◌&&◌, true, false, List, [], Option, Ok, Some, None, MatchOption, is_some, sym, ap, ◌∙◌, arith, lit≤}
+use Rattle.std.proofs.Common.{◌≡◌, ℕ, ◌≤◌, true, false, List, [], Option, Ok, Some, None, MatchOption, is_some, sym, ap, ◌∙◌, arith, lit≤}
 use Rattle.std.specs.Prelude.{option_and_then}
 use Rattle.std.specs.Str.{IsUtf8}
 use Rattle.json.specs.Json as json

@@ -1,4 +1,3 @@
-use Rattle.std.proofs.Common.{◌∙◌, ap, sym}
 use Rattle.pm_file.specs.Body.{body_content}
 use Rattle.pm_file.proofs.UsualTextLemmas.{permitted_usual, usual_says}
 use Rattle.pm_file.proofs.text.usual_report.Goals as goal

@@ -1,4 +1,4 @@
-use Rattle.std.proofs.Common.{[], ◌∷◌, codes, refl, map, decimal}
+use Rattle.std.proofs.Common.{codes, map}
 use Rattle.json.specs.Token.{begin_object, end_object, key}
 use Rattle.pm_form.specs.Lists.{list_of}
 use Rattle.pm_file.specs.Reading.{header_content, read_part_content}

@@ -1,7 +1,7 @@
-use Rattle.std.proofs.Common.{[], ◌∷◌, codes, refl, map, decimal}
+use Rattle.std.proofs.Common.{codes}
 use Rattle.json.specs.Token.{begin_object, end_object, key}
 use Rattle.pm_file.specs.ReportForm.{footer_form, moment}
-use Rattle.pm_file.proofs.UsualLemmas.{ends, then_token, then_tree, and}
+use Rattle.pm_file.proofs.UsualLemmas.{ends, then_token, then_tree}
 use Rattle.pm_file.proofs.usual_body.usual_footer.Goals as goal
 
 pub returns : goal.returns

@@ -1,4 +1,4 @@
-use Rattle.std.proofs.Common.{[], ◌∷◌, codes, refl, map, decimal}
+use Rattle.std.proofs.Common.{codes, refl}
 use Rattle.json.specs.Token.{begin_object, end_object, key, string}
 use Rattle.serde_json.specs.Data as tree
 use Rattle.pm_file.specs.ReportForm.{header_form, moment}

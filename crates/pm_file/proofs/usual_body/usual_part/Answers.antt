@@ -1,5 +1,5 @@
-use Rattle.std.proofs.Common.{[], ◌∷◌, codes, refl, map, decimal}
-use Rattle.json.specs.Token.{begin_object, end_object, key, number}
+use Rattle.std.proofs.Common.{codes, map}
+use Rattle.json.specs.Token.{begin_object, end_object, key}
 use Rattle.pm_form.specs.Values.{whole}
 use Rattle.pm_form.specs.Lists.{list_of}
 use Rattle.pm_file.specs.Report.{group_content}

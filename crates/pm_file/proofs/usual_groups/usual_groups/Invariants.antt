@@ -1,4 +1,4 @@
-use Rattle.std.proofs.Common.{map, length, ℕ}
+use Rattle.std.proofs.Common.{map, length}
 use Rattle.pm_file.specs.Report.{group_content}
 use Rattle.pm_file.specs.ReportForm.{group_form}
 use Rattle.pm_file.proofs.UsualListLemmas.{AreRead}

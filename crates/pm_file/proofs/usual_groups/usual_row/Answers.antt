@@ -1,4 +1,4 @@
-use Rattle.std.proofs.Common.{[], ◌∷◌, codes, refl, map, decimal}
+use Rattle.std.proofs.Common.{codes, refl}
 use Rattle.json.specs.Token.{begin_object, end_object, key, boolean}
 use Rattle.serde_json.specs.Data.{string}
 use Rattle.pm_form.specs.Lists.{list_of}

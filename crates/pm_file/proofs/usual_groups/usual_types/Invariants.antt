@@ -1,4 +1,4 @@
-use Rattle.std.proofs.Common.{map, length, ℕ}
+use Rattle.std.proofs.Common.{length}
 use Rattle.pm_file.specs.ReportForm.{type_form}
 use Rattle.pm_file.proofs.UsualListLemmas.{AreRead}
 use Rattle.pm_file.proofs.usual_groups.usual_types.Given as goal
