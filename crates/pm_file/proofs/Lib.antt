@@ -7,3 +7,7 @@ pub mod WriteLemmas
 pub mod NameLemmas
 pub mod KeptLemmas
 pub mod NumberLemmas
+pub mod UsualLemmas
+pub mod UsualListLemmas
+pub mod UsualNumberLemmas
+pub mod UsualTextLemmas

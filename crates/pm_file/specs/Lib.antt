@@ -10,3 +10,4 @@ pub mod HeaderOf
 pub mod Name
 pub mod Numbers
 pub mod Numbered
+pub mod Usual

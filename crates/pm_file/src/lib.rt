@@ -16,6 +16,11 @@ mod room;
 #[cfg(test)]
 mod tests;
 mod text;
+mod usual;
+mod usual_body;
+mod usual_groups;
+mod usual_names;
+mod usual_tokens;
 mod write;
 mod write_groups;
 

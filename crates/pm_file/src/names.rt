@@ -15,7 +15,7 @@ use std::alloc::Global;
 const BEFORE_ID: usize = 15;
 
 /// Whether the bytes are a distinguished name.
-fn is_object_name(bytes: &[u8]) -> bool
+pub(crate) fn is_object_name(bytes: &[u8]) -> bool
     ensures { result ≡ object_name bytes.now }
 {
     Dn::check(bytes).is_ok()
@@ -23,7 +23,7 @@ fn is_object_name(bytes: &[u8]) -> bool
 
 /// Whether the bytes are the name of a ManagedElement.
 #[tactic(auto, using(crate::proofs::ElementLemmas::short_name))]
-fn is_element_name(bytes: &[u8]) -> bool
+pub(crate) fn is_element_name(bytes: &[u8]) -> bool
     ensures { result ≡ element_name bytes.now }
 {
     if bytes.len() < BEFORE_ID {

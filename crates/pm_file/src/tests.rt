@@ -1,4 +1,5 @@
 //! The worked example's text, and texts that are refused at each rule.
+use crate::usual::usual_text;
 use crate::{Report, ReportError};
 use std::alloc::{AllocError, Global};
 use std::test::Fail;
@@ -179,4 +180,38 @@ fn the_worked_example_is_written_as_it_is_read(rt: HostRuntime) {
         }
         Err(error) => assert!(rt; false, "{error:?}"),
     }
+}
+
+/// Texts of the same report, and whether they are written in the usual way.
+const SAME: &str = r#"
+usual|:[5]|:[5]
+usual|:[5]| : [ 5 ]
+usual|"PM1"|"\u0050M1"
+other|"measResults":[5],"suspectFlag":false|"suspectFlag":false,"measResults":[5]
+other|"job1"|"job2","jobId":"job1"
+"#;
+
+fn is_usual(alloc: Global, text: &str) -> bool {
+    let body = usual_text(alloc, text.as_bytes());
+    body.is_some()
+}
+
+// Whether the report that the text says is that of the worked example.
+fn is_same(alloc: Global, text: &str) -> Result<bool, ReportError> {
+    let (same, _) = again(alloc, text)?;
+    Ok(same.as_str() == TEXT)
+}
+
+#[test]
+fn both_ways_read_the_same(rt: HostRuntime) -> Result<(), Fail> {
+    for line in SAME.trim().lines() {
+        let (way, rest) = line.split_once('|').expect(&rt, "a way");
+        let (old, new) = rest.split_once('|').expect(&rt, "what replaces it");
+        let text = changed(rt.alloc(), old, new)?;
+        let usual = is_usual(rt.alloc(), text.as_str());
+        assert_eq!(rt; usual, way == "usual", "at {line}");
+        let same = is_same(rt.alloc(), text.as_str());
+        assert_eq!(rt; same, Ok(true), "at {line}");
+    }
+    Ok(())
 }

@@ -1,5 +1,5 @@
 //! The report that a text says.
-ghost use Rattle.std.specs.Prelude.{◌≡◌, true, map, IfOk, MatchResult};
+ghost use Rattle.std.specs.Prelude.{◌≡◌, true, map, Ok, IfOk, IfSome, MatchResult};
 ghost use Rattle.serde_json.specs.View.{view};
 ghost use Rattle.pm_form.specs.Form.{text_says};
 ghost use Rattle.pm_form.specs.Says.{Says};
@@ -13,6 +13,7 @@ use crate::body::{ReadReport, read_body};
 use crate::error::ReportError;
 use crate::read::{ReadHeader, ReadPart};
 use crate::report::{Part, Report};
+use crate::usual::usual_text;
 use pm_form::{ReadError, Refusal, json_tree};
 use serde_json::Value;
 use std::alloc::{AllocError, Global};
@@ -60,6 +61,20 @@ fn report_of_text(alloc: Global, bytes: &[u8]) -> Result<Report, ReadError>
     report_in(alloc, &tree)
 }
 
+// The report of a text that is written in the usual way.
+fn usual_report(alloc: Global, bytes: &[u8]) -> Option<Report>
+    ensures { IfSome result (λ report. text_says report_form bytes.now ≡ Ok (content_of report)) }
+{
+    let body = usual_text(alloc, bytes)?;
+    if !report_agrees(&body.header, body.end, &body.parts) {
+        return None;
+    }
+    match report_of(alloc, body) {
+        Ok(report) => Some(report),
+        Err(_) => None,
+    }
+}
+
 fn report_error(error: ReadError) -> ReportError
     ensures { result ≡ error_of error }
 {
@@ -78,6 +93,9 @@ impl Report {
     pub fn read(alloc: Global, bytes: &[u8]) -> Result<Report, ReportError>
         ensures { IsReading result (text_says report_form bytes.now) }
     {
+        if let Some(report) = usual_report(alloc, bytes) {
+            return Ok(report);
+        }
         match report_of_text(alloc, bytes) {
             Ok(report) => Ok(report),
             Err(error) => Err(report_error(error)),
