@@ -10,6 +10,7 @@ pub mod PlaceLemmas
 pub mod StepLemmas
 pub mod NumberedLemmas
 pub mod FindLemmas
+pub mod ShownLemmas
 pub mod BackLemmas
 pub mod PermittedLemmas
 pub mod PlacesWithinLemmas

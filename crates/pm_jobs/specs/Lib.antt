@@ -4,6 +4,7 @@ pub mod Reading
 pub mod Asked
 pub mod State
 pub mod Rules
+pub mod JobCode
 pub mod Stands
 pub mod Plan
 pub mod Wanted

@@ -10,6 +10,8 @@ mod job_reading;
 mod jobs;
 mod limits;
 mod load;
+#[cfg(test)]
+mod load_tests;
 mod making;
 mod monitor_reading;
 mod numbers;
@@ -17,8 +19,12 @@ mod plan;
 #[cfg(test)]
 mod plan_tests;
 mod planning;
+#[cfg(test)]
+mod rule_tests;
 mod rules;
 mod showing;
+#[cfg(test)]
+mod showing_tests;
 mod standing;
 #[cfg(test)]
 mod tests;

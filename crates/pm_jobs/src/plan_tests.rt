@@ -94,7 +94,9 @@ fn a_monitor_is_made_moved_and_deleted(rt: HostRuntime) -> Result<(), AllocError
     let wrong: &[u8] =
         br#"{"monitorGranularityPeriod":60,"objectInstances":["ManagedElement=ME1,GNBDUFunction=1,NRCellDU=7"],"thresholdInfoList":[{"performanceMetrics":["VS"],"thresholdDirection":"UP","thresholdValue":5,"hysteresis":6}]}"#;
     let locked: &[u8] = br#"{"administrativeState":"LOCKED"}"#;
-    let steps: [(Ask, Result<Outcome, JobError>); 12] = [
+    let spaced: &[u8] =
+        br#"{ "thresholdInfoList":[ {"hysteresis":5,"performanceMetrics":["VS"],"thresholdDirection":"UP","thresholdValue":5} ], "objectInstances":["ManagedElement=ME1,GNBDUFunction=1,NRCellDU=7"], "monitorGranularityPeriod":60 }"#;
+    let steps: [(Ask, Result<Outcome, JobError>); 13] = [
         (Ask::Create { id: b"", body }, Err(JobError::J1)),
         (
             Ask::Create {
@@ -142,6 +144,13 @@ fn a_monitor_is_made_moved_and_deleted(rt: HostRuntime) -> Result<(), AllocError
             Ok(Outcome::Already),
         ),
         (Ask::Create { id: b"m", body }, Ok(Outcome::Same)),
+        (
+            Ask::Create {
+                id: b"m",
+                body: spaced,
+            },
+            Ok(Outcome::Same),
+        ),
         (Ask::Delete { id: b"m" }, Ok(Outcome::Deleted)),
     ];
     for (ask, want) in steps {

@@ -1,6 +1,7 @@
 //! The bodies of what stands, as they are shown.
-ghost use Rattle.std.specs.Prelude.{◌≡◌, IfOk};
+ghost use Rattle.std.specs.Prelude.{◌≡◌, IfOk, is_some, option_and_then};
 ghost use Rattle.pm_jobs.specs.Content.{is_unlocked};
+ghost use Rattle.pm_jobs.specs.Rules.{stands, standing_at};
 ghost use Rattle.pm_jobs.specs.Shown.{shown, body_shown};
 
 use crate::planning::find;
@@ -47,19 +48,37 @@ fn monitor_shown(alloc: Global, item: &Standing) -> Result<Option<Blob>, AllocEr
     }
 }
 
+fn item_shown(alloc: Global, side: Side, item: &Standing) -> Result<Option<Blob>, AllocError>
+    ensures { IfOk result (λ o. o ≡ shown side item.now) }
+{
+    match side {
+        Side::Job => job_shown(alloc, item),
+        Side::Monitor => monitor_shown(alloc, item),
+    }
+}
+
+fn shown_at(
+    alloc: Global,
+    side: Side,
+    items: &[Standing],
+    id: &[u8],
+) -> Result<Option<Blob>, AllocError>
+    ensures { IfOk result (λ o. o ≡ option_and_then (shown side) (standing_at items.now id.now)) }
+{
+    match find(items, id) {
+        Some(place) => item_shown(alloc, side, &items[place]),
+        None => Ok(None),
+    }
+}
+
 impl Jobs {
-    /// The canonical body of what stands under an id, with the state that stands now.
+    /// The canonical body of what exists under an id, with the state of now.
     pub fn body(&self, alloc: Global, side: Side, id: &[u8]) -> Result<Option<Blob>, AllocError>
-        ensures { IfOk result (λ o. o ≡ body_shown self.now side id.now) }
+        ensures body { IfOk result (λ o. o ≡ body_shown self.now side id.now) }
+
+        // There is one exactly where the id exists on this side.
+        ensures exists { IfOk result (λ o. is_some o ≡ stands self.now side id.now) }
     {
-        let items = self.on(side);
-        let Some(place) = find(items, id) else {
-            return Ok(None);
-        };
-        let item = &items[place];
-        match side {
-            Side::Job => job_shown(alloc, item),
-            Side::Monitor => monitor_shown(alloc, item),
-        }
+        shown_at(alloc, side, self.on(side), id)
     }
 }

@@ -104,7 +104,35 @@ fn a_job_is_read_by_its_keys(rt: HostRuntime) -> Result<(), AllocError> {
 
 #[test]
 fn a_wrong_list_of_thresholds_is_told_last(rt: HostRuntime) -> Result<(), AllocError> {
-    let cases: [(&[u8], &[u8]); 14] = [
+    let cases: [(&[u8], &[u8]); 21] = [
+        (
+            br#"{"monitorGranularityPeriod":60,"thresholdInfoList":[],"threshold\u0049nfoList":[{"performanceMetrics":["RRC"],"thresholdDirection":"UP","thresholdValue":6,"thresholdValue":0}]}"#,
+            br#"{"administrativeState":"UNLOCKED","monitorGranularityPeriod":60,"objectInstances":[],"rootObjectInstances":[],"thresholdInfoList":[{"hysteresis":0,"performanceMetrics":["RRC"],"thresholdDirection":"UP","thresholdValue":0}]}"#,
+        ),
+        (
+            br#"{"monitorGranularityPeriod":60,"thresholdInfoList":[{"performanceMetrics":["RRC"],"thresholdDirection":"UP","thresholdValue":1.0}]}"#,
+            b"J11",
+        ),
+        (
+            br#"{"monitorGranularityPeriod":60,"thresholdInfoList":[{"performanceMetrics":["RRC"],"thresholdDirection":"UP","thresholdValue":1e2}]}"#,
+            b"J11",
+        ),
+        (
+            br#"{"monitorGranularityPeriod":60,"thresholdInfoList":[{"performanceMetrics":["RRC"],"thresholdDirection":"UP","thresholdValue":-0}]}"#,
+            b"J11",
+        ),
+        (
+            br#"{"monitorGranularityPeriod":60,"thresholdInfoList":[{"performanceMetrics":["RRC"],"thresholdDirection":"UP","thresholdValue":18446744073709551616}]}"#,
+            b"J11",
+        ),
+        (
+            br#"{"monitorGranularityPeriod":60,"thresholdInfoList":[{"performanceMetrics":["\ud800"],"thresholdDirection":"UP","thresholdValue":5}]}"#,
+            b"J1",
+        ),
+        (
+            b"{\"monitorGranularityPeriod\":60,\"thresholdInfoList\":[{\"performanceMetrics\":[\"\xff\"],\"thresholdDirection\":\"UP\",\"thresholdValue\":5}]}",
+            b"J1",
+        ),
         (
             br#"{"monitorGranularityPeriod":60,"thresholdInfoList":[{"performanceMetrics":["RRC"],"thresholdDirection":"UP","thresholdValue":9007199254740991}]}"#,
             br#"{"administrativeState":"UNLOCKED","monitorGranularityPeriod":60,"objectInstances":[],"rootObjectInstances":[],"thresholdInfoList":[{"hysteresis":0,"performanceMetrics":["RRC"],"thresholdDirection":"UP","thresholdValue":9007199254740991}]}"#,
@@ -165,7 +193,7 @@ fn a_wrong_list_of_thresholds_is_told_last(rt: HostRuntime) -> Result<(), AllocE
 
 #[test]
 fn a_state_stands_alone(rt: HostRuntime) {
-    let cases: [(&[u8], Result<State, BodyError>); 5] = [
+    let cases: [(&[u8], Result<State, BodyError>); 6] = [
         (br#" {"administrativeState":"LOCKED"}"#, Ok(State::Locked)),
         (
             br#"{"administrativeState":"UNLOCKED"}"#,
@@ -175,6 +203,10 @@ fn a_state_stands_alone(rt: HostRuntime) {
         (
             br#"{"administrativeState":"LOCKED","a":1}"#,
             Err(BodyError::J1),
+        ),
+        (
+            br#"{"administrativeState":1,"administrativ\u0065State":"LOCKED"}"#,
+            Ok(State::Locked),
         ),
         (b"{}", Err(BodyError::J1)),
     ];
@@ -208,5 +240,36 @@ fn a_text_nests_127_levels(rt: HostRuntime) -> Result<(), AllocError> {
         read_state(rt.alloc(), deeper.as_slice()),
         Err(BodyError::J1)
     );
+    Ok(())
+}
+
+// A monitor's body with so many thresholds.
+fn thresholds(alloc: Global, count: usize) -> Result<Vec<u8>, AllocError> {
+    let mut text = Vec::new(alloc);
+    text.extend_from_slice(br#"{"monitorGranularityPeriod":60,"thresholdInfoList":["#)?;
+    for place in 0..count {
+        if 0 < place {
+            text.extend_from_slice(b",")?;
+        }
+        text.extend_from_slice(
+            br#"{"performanceMetrics":["RRC"],"thresholdDirection":"UP","thresholdValue":5}"#,
+        )?;
+    }
+    text.extend_from_slice(b"]}")?;
+    Ok(text)
+}
+
+#[test]
+fn a_list_has_1_to_16_thresholds(rt: HostRuntime) -> Result<(), AllocError> {
+    for (count, want) in [
+        (0, Some(BodyError::J11)),
+        (1, None),
+        (16, None),
+        (17, Some(BodyError::J11)),
+    ] {
+        let text = thresholds(rt.alloc(), count)?;
+        let answer = read_monitor(rt.alloc(), text.as_slice()).err();
+        assert_eq!(rt; answer, want, "at {count}");
+    }
     Ok(())
 }

@@ -35,6 +35,6 @@ returns-in-Some-clause-answer c =
     let id : job_id a.id.now ≡ true = sym c.is_job_id.ensures ∙ c.if-not-is_job_id.false in
     let content : (asked_of a.side a.body.now ≡ None) × (text_rule a.side a.body.now ≡ J11) = rw c.in-Err-J11.field-0-is at c.in-Err-J11.ensures.content in
     let wrong : has_wrong_list a.side a.body.now ≡ true = wrong_list a.side a.body.now content.1 in
-    let at : IsAt a.self.now a.side a.id.now c.in-Some.field-0 = rw c.on.ensures at c.in-Some.ensures.place in
+    let at : IsAt a.self.now a.side a.id.now c.in-Some.field-0 = rw c.on.ensures.items at c.in-Some.ensures.place in
     let there : stands a.self.now a.side a.id.now ≡ true = stands_at (ids_on a.side a.self.now) c.in-Some.field-0 a.id.now at in
     rw (id, content.0, wrong, there) refl

@@ -11,9 +11,9 @@ returns-then-items-place-clause-answer c =
     let a = c.args in
     let place = c.in-Some.place in
     let item = c.index-items-place.result in
-    let at : IsAt a.self.now a.side a.id.now place = rw c.on-items.ensures at c.in-Some.ensures.place in
-    let within : place < length (on a.side a.self.now) = rw c.on-items.ensures at c.in-Some.ensures.within in
-    let is : item ≡ get_or (on a.side a.self.now) place item = rw c.on-items.ensures at c.index-items-place.is in
+    let at : IsAt a.self.now a.side a.id.now place = rw c.on-items.ensures.items at c.in-Some.ensures.place in
+    let within : place < length (on a.side a.self.now) = rw c.on-items.ensures.items at c.in-Some.ensures.within in
+    let is : item ≡ get_or (on a.side a.self.now) place item = rw c.on-items.ensures.items at c.index-items-place.is in
     let there : stands a.self.now a.side a.id.now ≡ true = stands_at (ids_on a.side a.self.now) place a.id.now at in
     (rw there refl, (place, at, state_there (on a.side a.self.now) place item a.unlocked within is (ap (λ (s : Standing). s.unlocked) c.index-items-place.is ∙ beq_same _ a.unlocked c.if-items-place.true)))
 
@@ -22,8 +22,8 @@ returns-clause-answer c =
     let a = c.args in
     let place = c.in-Some.place in
     let item = c.index-items-place.result in
-    let at : IsAt a.self.now a.side a.id.now place = rw c.on-items.ensures at c.in-Some.ensures.place in
-    let within : place < length (on a.side a.self.now) = rw c.on-items.ensures at c.in-Some.ensures.within in
-    let is : item ≡ get_or (on a.side a.self.now) place item = rw c.on-items.ensures at c.index-items-place.is in
+    let at : IsAt a.self.now a.side a.id.now place = rw c.on-items.ensures.items at c.in-Some.ensures.place in
+    let within : place < length (on a.side a.self.now) = rw c.on-items.ensures.items at c.in-Some.ensures.within in
+    let is : item ≡ get_or (on a.side a.self.now) place item = rw c.on-items.ensures.items at c.index-items-place.is in
     let there : stands a.self.now a.side a.id.now ≡ true = stands_at (ids_on a.side a.self.now) place a.id.now at in
     (rw there refl, (refl, refl, refl, at, state_there (on a.side a.self.now) place item (not a.unlocked) within is (ap (λ (s : Standing). s.unlocked) c.index-items-place.is ∙ beq_other _ a.unlocked c.if-items-place.false)))
