@@ -1,9 +1,9 @@
 -- Whether the names of a listing's files are distinct, file by file.
-use Rattle.std.proofs.Common.{◌≡◌, ℕ, suc, ◌+◌, ◌<◌, ◌&&◌, ◌||◌, Bool, not, true, false, List, [], ◌∷◌, length, drop, get_or, refl, sym, ap, ◌∙◌, drop-cons, add-one, bytes_eq}
-use Rattle.std.specs.List.{list_any}
+use Rattle.std.proofs.Common.{◌≡◌, ℕ, zero, suc, ◌+◌, ◌<◌, ◌&&◌, ◌||◌, Bool, not, true, false, List, [], ◌∷◌, length, drop, get_or, refl, sym, ap, ◌∙◌, drop-cons, add-one, bytes_eq, arith}
+use Rattle.std.specs.List.{list_any, All}
 use Rattle.pm_notice.specs.declared.notice.FileInfo.{FileInfo}
 use Rattle.pm_notice.specs.NoticeForm.{are_distinct}
-use Rattle.pm_notice.specs.NoticeContent.{location_of, locations_of}
+use Rattle.pm_notice.specs.NoticeContent.{location_of, locations_of, IsFileInfo}
 
 -- Paths are equal where names are.
 among-locations : (name : List ℕ) (files : List FileInfo) → list_any (λ (f : FileInfo). bytes_eq name f.name) files ≡ list_any (bytes_eq (location_of name)) (locations_of files)
@@ -33,3 +33,8 @@ distinct-go files i d name b lt is found e =
     let away : list_any (λ (f : FileInfo). bytes_eq (get_or files i d).name f.name) (drop (i + 1) files) ≡ false =
     ap (λ (n : List ℕ). list_any (λ (f : FileInfo). bytes_eq n f.name) (drop (i + 1) files)) (sym is) ∙ sym found ∙ e in
     distinct-step files i d lt ∙ ap (λ (b : Bool). not b && are_distinct (locations_of (drop (i + 1) files))) away
+
+-- One file alone.
+pub one-file : (f : FileInfo) → IsFileInfo f → All IsFileInfo (f ∷ [])
+one-file f is zero d lt = is
+one-file f is (suc k) d lt = absurd (omega (arith, lt))

@@ -9,6 +9,8 @@ mod listed;
 mod listing;
 mod notice;
 mod read;
+#[cfg(test)]
+mod read_tests;
 mod rounds;
 mod subscription;
 mod subscriptions;
