@@ -1,5 +1,7 @@
 //! What a consumer answered.
-ghost use Rattle.std.specs.Prelude.{◌≤◌, length};
+ghost use Rattle.std.specs.Prelude.{◌≡◌, ◌↔◌, ◌≤◌, length};
+ghost use Rattle.httparse.specs.Grammar.{MayBecomeResponse};
+ghost use Rattle.pm_courier.specs.Reply.{TakesNotice};
 
 use httparse::Status;
 use httparse::spans::{EMPTY_HEADER_SPAN, parse_response};
@@ -19,7 +21,12 @@ pub(crate) enum Answer {
 }
 
 /// What the first bytes of a reply say.
-pub(crate) fn answer_of(bytes: &[u8]) -> Answer {
+pub(crate) fn answer_of(bytes: &[u8]) -> Answer
+    ensures taken { (result ≡ Answer.Taken) ↔ TakesNotice bytes.now }
+
+    // It waits only where more bytes can complete a head.
+    ensures waits { result ≡ Answer.Open → MayBecomeResponse bytes.now }
+{
     let mut headers = [EMPTY_HEADER_SPAN; 64];
     match parse_response(bytes, &mut headers) {
         Ok(Status::Complete(head)) if 200 <= head.code && head.code <= 299 => Answer::Taken,

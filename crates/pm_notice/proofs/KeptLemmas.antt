@@ -1,5 +1,5 @@
 -- The compact text of a notice's tree reads back as the notice.
-use Rattle.std.proofs.Common.{rules, ◌≡◌, ℕ, ◌+◌, ◌++◌, codes, nat_eq, ◌≤◌, ◌&&◌, Bool, true, false, List, refl, ap, ◌∙◌, arith, le-leb, Ok}
+use Rattle.std.proofs.Common.{rules, ◌≡◌, ℕ, ◌+◌, ◌++◌, codes, nat_eq, ◌≤◌, ◌&&◌, Bool, true, false, List, [], ◌∷◌, map, refl, ap, ◌∙◌, arith, le-leb, Ok}
 use Rattle.std.specs.Str.{IsUtf8}
 use Rattle.json.specs.Lex.{tokens}
 use Rattle.json.specs.Print.{print}
@@ -10,10 +10,15 @@ use Rattle.serde_json.specs.Written.{outline, compact_text}
 use Rattle.pm_form.specs.Form.{Form, Read, then_read, text_says, IsExact}
 use Rattle.pm_form.specs.Names.{job_id, measure_name}
 use Rattle.pm_form.proofs.ReadLemmas.{json_of_read}
-use Rattle.pm_form.proofs.KeptLemmas.{IsKept, whole_kept, compact_back}
+use Rattle.pm_form.proofs.KeptLemmas.{IsKept, whole_kept, list_kept, compact_back}
+use Rattle.pm_form.specs.Lists.{list_of, each_fits}
+use Rattle.std.specs.List.{All}
+use Rattle.std.proofs.lemmas.List.Elements.{All-head, All-tail}
 use Rattle.pm_file.specs.ReportForm.{object_name, moment}
-use Rattle.pm_notice.specs.NoticeForm.{TellsFileNames, number, file_location, expires_in_a_day, listed_form, file_ready_form, direction_text, is_direction, crossing_form}
-use Rattle.pm_notice.specs.NoticeContent.{listed_of, file_ready_of, crossing_of, IsFileInfo, IsCrossed}
+use Rattle.pm_notice.specs.NameTest.{is_file_name}
+use Rattle.pm_notice.proofs.NameTestLemmas.{is_file_name-says}
+use Rattle.pm_notice.specs.NoticeForm.{number, file_location, expires_in_a_day, listed_form, file_ready_form, direction_text, is_direction, crossing_form, are_distinct, listing_form}
+use Rattle.pm_notice.specs.NoticeContent.{listed_of, locations_of, file_ready_of, crossing_of, IsFileInfo, IsCrossed}
 use Rattle.pm_notice.specs.declared.notice.FileInfo.{FileInfo}
 use Rattle.pm_notice.specs.declared.notice.Crossed.{Crossed}
 
@@ -64,54 +69,54 @@ crossing_fits n c is number hysteresis value threshold =
       direction-is c.up,
     ) (le-leb c.threshold 18446744073709551615 threshold)
 
-pub listed_kept : (names : List ℕ → Bool) → IsKept (listed_form names) 1
+pub listed_kept : IsKept listed_form 1
 unfolding listed_form
-listed_kept names =
+listed_kept =
     record {
       same = λ l fits.
           let z = both _ (expires_in_a_day l) fits in
           let a = both (number.fits l.expires) _ z.0 in
-          let b = both (file_location names l.location) _ a.1 in
+          let b = both (file_location l.location) _ a.1 in
           let d = both (moment.fits l.ready) (number.fits l.size) b.1 in
           rw (number_kept.same l.expires a.0, moment_kept.same l.ready d.0, number_kept.same l.size d.1) refl;
       shallow = λ l. omega arith;
     }
 
-pub file_ready_kept : (names : List ℕ → Bool) → IsKept (file_ready_form names) 3
+pub file_ready_kept : IsKept file_ready_form 3
 unfolding file_ready_form
-file_ready_kept names =
+file_ready_kept =
     record {
       same = λ f fits.
           let a = both (moment.fits f.event) _ fits in
-          let b = both ((listed_form names).fits f.file) _ a.1 in
+          let b = both (listed_form.fits f.file) _ a.1 in
           let d = both (number.fits f.number) (object_name f.object) b.1 in
-          rw (moment_kept.same f.event a.0, (listed_kept names).same f.file b.0, number_kept.same f.number d.0) refl;
-      shallow = λ f. let h = (listed_kept names).shallow f.file in omega (arith, h);
+          rw (moment_kept.same f.event a.0, listed_kept.same f.file b.0, number_kept.same f.number d.0) refl;
+      shallow = λ f. let h = listed_kept.shallow f.file in omega (arith, h);
     }
 
-location-is : (names : List ℕ → Bool) (name : List ℕ) → names name ≡ true → file_location names (codes "/files/" ++ name) ≡ true
-location-is names name is = is
+location-is : (name : List ℕ) → is_file_name name ≡ true → file_location (codes "/files/" ++ name) ≡ true
+location-is name is = is
 
 itself : (n : ℕ) → nat_eq n n ≡ true
 itself n = search rules
 
-listed_fits : (names : List ℕ → Bool) (f : FileInfo) → TellsFileNames names → IsFileInfo f → f.size ≤ 18446744073709551615 → (listed_form names).fits (listed_of f) ≡ true
+pub listed_fits : (f : FileInfo) → IsFileInfo f → listed_form.fits (listed_of f) ≡ true
 unfolding listed_form
-listed_fits names f tells is size =
+listed_fits f is =
     let r = is.ready in
     rw (
       le-leb (f.ready + 86400) 18446744073709551615 (omega (arith, r)),
-      location-is names f.name ((tells f.name).1 is.named),
+      location-is f.name (is_file_name-says f.name is.named),
       le-leb f.ready 253402300799 is.ready,
-      le-leb f.size 18446744073709551615 size,
+      le-leb f.size 18446744073709551615 is.size,
     ) (itself (f.ready + 86400))
 
 -- A file that a listing may have fits.
-pub file_ready_fits : (names : List ℕ → Bool) (n : ℕ) (f : FileInfo) (element : List ℕ) → TellsFileNames names → IsFileInfo f → object_name element ≡ true
-    → n ≤ 18446744073709551615 → f.size ≤ 18446744073709551615 → (file_ready_form names).fits (file_ready_of n f element) ≡ true
+pub file_ready_fits : (n : ℕ) (f : FileInfo) (element : List ℕ) → IsFileInfo f → object_name element ≡ true
+    → n ≤ 18446744073709551615 → file_ready_form.fits (file_ready_of n f element) ≡ true
 unfolding file_ready_form
-file_ready_fits names n f element tells is object number size =
-    rw (le-leb f.ready 253402300799 is.ready, listed_fits names f tells is size, le-leb n 18446744073709551615 number) object
+file_ready_fits n f element is object number =
+    rw (le-leb f.ready 253402300799 is.ready, listed_fits f is, le-leb n 18446744073709551615 number) object
 
 -- The compact text of a value that fits says the value.
 pub says_back : {A : Type 0} (form : Form A) (levels : ℕ) → levels ≤ 127 → IsKept form levels → IsExact form → (a : A) (text : List ℕ)
@@ -123,3 +128,21 @@ says_back {A} form levels room kept exact a text fits is utf8 same =
     let tree = json_of_read text (form.tree a) utf8 (ap read is ∙ back) in
     let then : Read Data → Read A = λ d. then_read d form.reads in
     ap then tree ∙ exact.back a fits
+
+pub listing_kept : IsKept listing_form 3
+unfolding listing_form
+listing_kept =
+    let files = list_kept listed_form 1 listed_kept in
+    record {
+      same = λ ls fits. rw (files.same ls (both ((list_of listed_form).fits ls) _ fits).0) refl;
+      shallow = λ ls. let h = files.shallow ls in omega (arith, h);
+    }
+
+each-listed : (files : List FileInfo) → All IsFileInfo files → each_fits listed_form.fits (map listed_of files) ≡ true
+each-listed [] all = refl
+each-listed (f ∷ fs) all = rw (listed_fits f (All-head IsFileInfo f fs all)) (each-listed fs (All-tail IsFileInfo f fs all))
+
+-- Files that a listing may have fit, where no name comes twice.
+pub listing_fits : (files : List FileInfo) → All IsFileInfo files → are_distinct (locations_of files) ≡ true → listing_form.fits (map listed_of files) ≡ true
+unfolding listing_form
+listing_fits files all distinct = rw (each-listed files all) distinct

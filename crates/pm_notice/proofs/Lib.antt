@@ -4,6 +4,9 @@ pub mod RemoveLemmas
 pub mod StandLemmas
 pub mod RoundLemmas
 pub mod DeliverLemmas
+pub mod AllRoundsLemmas
+pub mod NameTestLemmas
 pub mod NoticeLemmas
 pub mod TextLemmas
 pub mod KeptLemmas
+pub mod ListingLemmas

@@ -1,12 +1,14 @@
 pub mod Consumer
-pub mod Told
 pub mod Plan
 pub mod StandFor
 pub mod Planned
 pub mod Asked
 pub mod Order
 pub mod Round
+pub mod Rounds
 pub mod Single
+pub mod NameTest
 pub mod NoticeForm
 pub mod NoticeContent
+pub mod Told
 pub mod Laws

@@ -1,11 +1,11 @@
 //! The texts of notices.
 ghost use Rattle.std.specs.Prelude.{◌≡◌, ◌++◌, true, codes, IfOk};
-ghost use Rattle.std.specs.Prelude.{ℕ, Bool, List, Ok};
+ghost use Rattle.std.specs.Prelude.{Ok};
 ghost use Rattle.serde_json.specs.Written.{compact_text};
 ghost use Rattle.pm_form.specs.Form.{text_says};
 ghost use Rattle.pm_form.specs.Says.{Appends};
 ghost use Rattle.pm_file.specs.ReportForm.{object_name};
-ghost use Rattle.pm_notice.specs.NoticeForm.{TellsFileNames, any_text, listed_form, file_ready_form, crossing_form, direction_text};
+ghost use Rattle.pm_notice.specs.NoticeForm.{listed_form, file_ready_form, crossing_form, direction_text};
 ghost use Rattle.pm_notice.specs.Single.{single};
 ghost use Rattle.pm_notice.specs.NoticeContent.{listed_of, file_ready_of, crossing_of, IsFileInfo, IsCrossed};
 
@@ -16,7 +16,7 @@ use pm_form::text_token;
 use std::alloc::{AllocError, Global};
 
 /// The seconds after it is ready at which a file expires.
-const EXPIRY: u64 = 86_400;
+pub(crate) const EXPIRY: u64 = 86_400;
 
 fn direction_word(up: bool) -> &'static str
     ensures { result.now ≡ direction_text up }
@@ -60,9 +60,14 @@ fn location_of(alloc: Global, name: &[u8]) -> Result<Vec<u8>, AllocError>
     Ok(location)
 }
 
-fn write_listed(out: &mut Writer, alloc: Global, file: &FileInfo) -> Result<(), AllocError>
+/// Writes a file that is ready.
+pub(crate) fn write_listed(
+    out: &mut Writer,
+    alloc: Global,
+    file: &FileInfo,
+) -> Result<(), AllocError>
     requires { IsFileInfo file.now }
-    ensures { Appends result out.old out.new ((listed_form any_text).tree (listed_of file.now)) }
+    ensures { Appends result out.old out.new (listed_form.tree (listed_of file.now)) }
 {
     let location = location_of(alloc, file.name.as_bytes())?;
     out.begin_object()?;
@@ -83,7 +88,7 @@ fn write_listed(out: &mut Writer, alloc: Global, file: &FileInfo) -> Result<(), 
 
 fn write_one_listed(out: &mut Writer, alloc: Global, file: &FileInfo) -> Result<(), AllocError>
     requires { IsFileInfo file.now }
-    ensures { Appends result out.old out.new ((single (listed_form any_text)).tree (listed_of file.now)) }
+    ensures { Appends result out.old out.new ((single listed_form).tree (listed_of file.now)) }
 {
     out.begin_array()?;
     write_listed(out, alloc, file)?;
@@ -99,7 +104,7 @@ fn write_file_ready(
 ) -> Result<(), AllocError>
     requires file { IsFileInfo file.now }
     requires element { object_name element.now ≡ true }
-    ensures { Appends result out.old out.new ((file_ready_form any_text).tree (file_ready_of number file.now element.now)) }
+    ensures { Appends result out.old out.new (file_ready_form.tree (file_ready_of number file.now element.now)) }
 {
     out.begin_object()?;
     out.key("eventTime")?;
@@ -125,10 +130,9 @@ pub fn file_notice(
     requires file { IsFileInfo file.now }
     requires element { object_name element.now ≡ true }
     ensures numbered { IfOk result (λ n. (n.number ≡ number) × (n.end ≡ file.now.ready)) }
-    ensures text { IfOk result (λ n. (names : List ℕ → Bool) → n.body ≡ compact_text ((file_ready_form names).tree (file_ready_of number file.now element.now))) }
-    ensures back { IfOk result (λ n. (names : List ℕ → Bool) → TellsFileNames names → text_says (file_ready_form names) n.body ≡ Ok (file_ready_of number file.now element.now)) }
+    ensures text { IfOk result (λ n. n.body ≡ compact_text (file_ready_form.tree (file_ready_of number file.now element.now))) }
+    ensures back { IfOk result (λ n. text_says file_ready_form n.body ≡ Ok (file_ready_of number file.now element.now)) }
 {
-    let _size = file.size;
     let mut out = Writer::new(Vec::new(alloc));
     write_file_ready(&mut out, alloc, number, file, element)?;
     Ok(Notice {

@@ -5,7 +5,7 @@ use Rattle.serde_json.specs.Written.{outline}
 use Rattle.pm_form.proofs.WriteLemmas.{more, on_ok}
 use Rattle.pm_file.proofs.Utf8Lemmas.{object_name-utf8}
 use Rattle.pm_notice.specs.Single.{single}
-use Rattle.pm_notice.specs.NoticeForm.{any_text, listed_form, file_ready_form}
+use Rattle.pm_notice.specs.NoticeForm.{listed_form, file_ready_form}
 use Rattle.pm_notice.specs.NoticeContent.{listed_of}
 use Rattle.pm_notice.proofs.write.write_file_ready.Goals as goal
 
@@ -20,7 +20,7 @@ returns c =
     let s01 = more old (begin_object ∷ []) (key (codes "eventTime") ∷ []) c.in_ok-begin_object.ensures.ok c.in_ok-key.ensures.ok in
     let s02 = more old _ (number (decimal f.ready) ∷ []) s01 c.in_ok-u64.ensures.ok in
     let s03 = more old _ (key (codes "fileInfoList") ∷ []) s02 c.in_ok-key-2.ensures.ok in
-    let s04 = more old _ (json_tokens (outline ((single (listed_form any_text)).tree (listed_of f)))) s03 c.in_ok-write_one_listed.ensures.ok in
+    let s04 = more old _ (json_tokens (outline ((single listed_form).tree (listed_of f)))) s03 c.in_ok-write_one_listed.ensures.ok in
     let listed = c.write_one_listed.new.out.tokens in
     let s11 = more listed (key (codes "notificationId") ∷ []) (number (decimal c.args.number) ∷ []) c.in_ok-key-3.ensures.ok c.in_ok-u64-2.ensures.ok in
     let s12 = more listed _ (key (codes "notificationType") ∷ []) s11 c.in_ok-key-4.ensures.ok in
