@@ -19,6 +19,7 @@ mod plan_tests;
 mod planning;
 mod rules;
 mod showing;
+mod shown;
 mod standing;
 #[cfg(test)]
 mod tests;
