@@ -62,7 +62,7 @@ fn write_monitor_shown(out: &mut Writer, id: &[u8], body: &MonitorBody) -> Resul
 /// A job's body, of this id and as it is.
 pub(crate) fn job_shown(alloc: Global, id: &[u8], body: &JobBody) -> Result<Blob, AllocError>
     requires { job_id id.now ≡ true }
-    ensures text { IfOk result (λ text. text ≡ compact_text (job_shown id.now (job_content body.now))) }
+    ensures { IfOk result (λ text. text ≡ compact_text (job_shown id.now (job_content body.now))) }
 {
     let mut out = Writer::new(Vec::new(alloc));
     write_job_shown(&mut out, id, body)?;
@@ -76,7 +76,7 @@ pub(crate) fn monitor_shown(
     body: &MonitorBody,
 ) -> Result<Blob, AllocError>
     requires { job_id id.now ≡ true }
-    ensures text { IfOk result (λ text. text ≡ compact_text (monitor_shown id.now (monitor_content body.now))) }
+    ensures { IfOk result (λ text. text ≡ compact_text (monitor_shown id.now (monitor_content body.now))) }
 {
     let mut out = Writer::new(Vec::new(alloc));
     write_monitor_shown(&mut out, id, body)?;
