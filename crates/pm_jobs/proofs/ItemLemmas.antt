@@ -1,6 +1,5 @@
 -- Items of a side, with one more, with one less, and with another state of one.
 use Rattle.std.proofs.Common.{◌≡◌, ℕ, zero, suc, ◌+◌, ◌<◌, ◌≤◌, ◌||◌, Bool, true, false, List, [], ◌∷◌, length, set, get_or, refl, sym, ap, ◌∙◌, arith, zero-add}
-use Rattle.std.specs.Prelude.{IsSome}
 use Rattle.std.specs.List.{insert, remove, list_any}
 use Rattle.std.specs.Str.{bytes_eq}
 use Rattle.std.proofs.lemmas.List.Sums.{sum_by-append}
@@ -8,8 +7,7 @@ use Rattle.std.proofs.lemmas.Bool.Decides.{same_from_decides}
 use Rattle.std.proofs.lemmas.Slice.Eq.{bytes_eq-Decides}
 use Rattle.pm_history.specs.declared.entry.Side.{Side}
 use Rattle.pm_jobs.specs.declared.standing.Standing.{Standing}
-use Rattle.pm_jobs.specs.Asked.{asked_of}
-use Rattle.pm_jobs.specs.State.{ids, load_of, AreApart, HaveBodies, IsSide}
+use Rattle.pm_jobs.specs.State.{ids, load_of, AreApart, IsItem, AreItems, IsSide}
 use Rattle.pm_jobs.specs.Plan.{with_state, moved_at}
 
 -- ---- another state
@@ -19,15 +17,15 @@ ids-moved_at moment unlocked place [] = refl
 ids-moved_at moment unlocked zero (s ∷ ss) = refl
 ids-moved_at moment unlocked (suc place) (s ∷ ss) = ap (λ l. s.id ∷ l) (ids-moved_at moment unlocked place ss)
 
-pub bodies-moved_at : (side : Side) (moment : ℕ) (unlocked : Bool) (place : ℕ) (items : List Standing) → HaveBodies side items → HaveBodies side (moved_at moment unlocked place items)
-bodies-moved_at side moment unlocked place [] all = all
-bodies-moved_at side moment unlocked zero (s ∷ ss) all = all
-bodies-moved_at side moment unlocked (suc place) (s ∷ ss) all = (all.0, bodies-moved_at side moment unlocked place ss all.1)
+pub each-moved_at : (side : Side) (moment : ℕ) (unlocked : Bool) (place : ℕ) (items : List Standing) → AreItems side items → AreItems side (moved_at moment unlocked place items)
+each-moved_at side moment unlocked place [] all = all
+each-moved_at side moment unlocked zero (s ∷ ss) all = all
+each-moved_at side moment unlocked (suc place) (s ∷ ss) all = (all.0, each-moved_at side moment unlocked place ss all.1)
 
 pub side-moved_at : (side : Side) (moment : ℕ) (unlocked : Bool) (place : ℕ) (items : List Standing) → IsSide side items → IsSide side (moved_at moment unlocked place items)
 side-moved_at side moment unlocked place items is = record {
   apart = rw (ids-moved_at moment unlocked place items) is.apart;
-  bodies = bodies-moved_at side moment unlocked place items is.bodies;
+  each = each-moved_at side moment unlocked place items is.each;
 }
 
 pub set-moved_at : (moment : ℕ) (unlocked : Bool) (place : ℕ) (items : List Standing) (d : Standing) → place < length items
@@ -43,10 +41,10 @@ ids-insert items zero s = refl
 ids-insert [] (suc place) s = refl
 ids-insert (t ∷ ts) (suc place) s = ap (λ l. t.id ∷ l) (ids-insert ts place s)
 
-pub bodies-insert : (side : Side) (items : List Standing) (place : ℕ) (s : Standing) → HaveBodies side items → IsSome (asked_of side s.body) → HaveBodies side (insert items place s)
-bodies-insert side items zero s all own = (own, all)
-bodies-insert side [] (suc place) s all own = (own, all)
-bodies-insert side (t ∷ ts) (suc place) s all own = (all.0, bodies-insert side ts place s all.1 own)
+pub each-insert : (side : Side) (items : List Standing) (place : ℕ) (s : Standing) → AreItems side items → IsItem side s → AreItems side (insert items place s)
+each-insert side items zero s all own = (own, all)
+each-insert side [] (suc place) s all own = (own, all)
+each-insert side (t ∷ ts) (suc place) s all own = (all.0, each-insert side ts place s all.1 own)
 
 load-cons : (s : Standing) (ss : List Standing) → load_of (s ∷ ss) ≡ s.load + load_of ss
 load-cons s ss = sum_by-append (λ (t : Standing). t.load) (s ∷ []) ss ∙ ap (λ n. n + load_of ss) (zero-add s.load)
@@ -76,11 +74,11 @@ load-remove (t ∷ ts) (suc place) =
     let three = load-cons t ts in
     omega (arith, one, two, three)
 
-pub bodies-remove : (side : Side) (items : List Standing) (place : ℕ) → HaveBodies side items → HaveBodies side (remove items place)
-bodies-remove side [] zero all = all
-bodies-remove side [] (suc place) all = all
-bodies-remove side (t ∷ ts) zero all = all.1
-bodies-remove side (t ∷ ts) (suc place) all = (all.0, bodies-remove side ts place all.1)
+pub each-remove : (side : Side) (items : List Standing) (place : ℕ) → AreItems side items → AreItems side (remove items place)
+each-remove side [] zero all = all
+each-remove side [] (suc place) all = all
+each-remove side (t ∷ ts) zero all = all.1
+each-remove side (t ∷ ts) (suc place) all = (all.0, each-remove side ts place all.1)
 
 pub ids-remove : (items : List Standing) (place : ℕ) → ids (remove items place) ≡ remove (ids items) place
 ids-remove [] zero = refl
@@ -131,14 +129,14 @@ apart-remove (k ∷ ks) zero all = all.1
 apart-remove (k ∷ ks) (suc place) all = (any-remove k ks place all.0, apart-remove ks place all.1)
 
 pub side-insert : (side : Side) (items : List Standing) (place : ℕ) (s : Standing) → IsSide side items → list_any (bytes_eq s.id) (ids items) ≡ false
-    → IsSome (asked_of side s.body) → IsSide side (insert items place s)
+    → IsItem side s → IsSide side (insert items place s)
 side-insert side items place s is fresh own = record {
   apart = rw (ids-insert items place s) (apart-insert (ids items) place s.id is.apart fresh);
-  bodies = bodies-insert side items place s is.bodies own;
+  each = each-insert side items place s is.each own;
 }
 
 pub side-remove : (side : Side) (items : List Standing) (place : ℕ) → IsSide side items → IsSide side (remove items place)
 side-remove side items place is = record {
   apart = rw (ids-remove items place) (apart-remove (ids items) place is.apart);
-  bodies = bodies-remove side items place is.bodies;
+  each = each-remove side items place is.each;
 }

@@ -20,7 +20,7 @@ use Rattle.pm_jobs.specs.declared.ask.Ask.TheVariants as ask
 use Rattle.pm_jobs.specs.Asked.{Asked, asked_of}
 use Rattle.pm_jobs.specs.Reading.{state_body}
 use Rattle.pm_jobs.specs.Rules.{MOST_STANDING, MOST_LOAD, stands}
-use Rattle.pm_jobs.specs.State.{JobsState, on, with_on, ids_on, load_on}
+use Rattle.pm_jobs.specs.State.{JobsState, on, with_on, ids_on, load_on, IsItem}
 use Rattle.pm_jobs.specs.Stands.{Fits, Keeps}
 
 -- ---- what a plan is
@@ -85,7 +85,7 @@ pub record HasRoom (jobs : JobsState) (side : Side) (place : ℕ) (s : Standing)
   pub fresh : stands jobs side s.id ≡ false
   pub few : length (on side jobs) < MOST_STANDING
   pub load : load_on jobs + s.load ≤ MOST_LOAD
-  pub says : IsSome (asked_of side s.body)
+  pub item : IsItem side s
 
 abbrev pub Suits : JobsState → Plan → Type 0
 Suits jobs (Make side place s) = HasRoom jobs side place s

@@ -1,7 +1,8 @@
 -- What stands, as a contract sees it: the jobs and the monitors, each in byte order of id.
-use Rattle.std.specs.Prelude.{ℕ, ◌+◌, ◌≡◌, false, List, [], ◌∷◌, map, IsSome}
+use Rattle.std.specs.Prelude.{ℕ, ◌+◌, ◌≡◌, true, false, List, [], ◌∷◌, map, IsSome}
 use Rattle.std.specs.List.{list_any, sum_by, AllByRecursion}
 use Rattle.std.specs.Str.{bytes_eq}
+use Rattle.pm_form.specs.Names.{job_id}
 use Rattle.pm_history.specs.declared.entry.Side.{Side}
 use Rattle.pm_history.specs.declared.entry.Side.TheVariants.{Job, Monitor}
 use Rattle.pm_jobs.specs.declared.standing.Standing.{Standing}
@@ -39,11 +40,14 @@ abbrev pub AreApart : List (List ℕ) → Type 0
 AreApart [] = Unit {0}
 AreApart (i ∷ is) = (list_any (bytes_eq i) is ≡ false) × AreApart is
 
--- Each was made with a text that says a body of its side.
-abbrev pub HaveBodies : Side → List Standing → Type 0
-HaveBodies side items = AllByRecursion (λ (s : Standing). IsSome (asked_of side s.body)) items
+-- An item has an id of its form, and was made with a text that says a body of its side.
+abbrev pub IsItem : Side → Standing → Type 0
+IsItem side s = (job_id s.id ≡ true) × IsSome (asked_of side s.body)
 
--- The items of a side: of different ids, and with bodies.
+abbrev pub AreItems : Side → List Standing → Type 0
+AreItems side items = AllByRecursion (IsItem side) items
+
+-- The items of a side, of different ids.
 pub record IsSide (side : Side) (items : List Standing) : Type 0 where
   pub apart : AreApart (ids items)
-  pub bodies : HaveBodies side items
+  pub each : AreItems side items

@@ -1,5 +1,5 @@
 //! What the creation of a job or a monitor comes to.
-ghost use Rattle.std.specs.Prelude.{◌≡◌, ◌≤◌, ◌∷◌, [], length, false, IfOk, Some, None};
+ghost use Rattle.std.specs.Prelude.{◌≡◌, ◌≤◌, ◌∷◌, [], length, true, false, IfOk, Some, None};
 ghost use Rattle.pm_dn.specs.Refusal.{when_broken, first_code};
 ghost use Rattle.pm_form.specs.Names.{job_id};
 ghost use Rattle.pm_jobs.specs.Asked.{asked_of};
@@ -36,6 +36,7 @@ impl Jobs {
         wanted: Wanted,
     ) -> Result<Plan, JobError>
         requires short { length id.now ≤ 32 }
+        requires named { job_id id.now ≡ true }
         requires fresh { stands self.now side id.now ≡ false }
         requires back { asked_of side wanted.text ≡ Some (wanted_content wanted) }
         ensures answer { Answers result (asked_refusal inventory.now self.now side (wanted_content wanted)) (λ plan. Creates inventory.now self.now moment side id.now (Some (wanted_content wanted)) plan) }
@@ -65,6 +66,7 @@ impl Jobs {
         wanted: Wanted,
     ) -> Result<Plan, JobError>
         requires short { length id.now ≤ 32 }
+        requires named { job_id id.now ≡ true }
         requires back { asked_of side wanted.text ≡ Some (wanted_content wanted) }
         ensures answer { Answers result (first_code (when_broken (is_other self.now side id.now (Some (wanted_content wanted))) JobError.J2 ∷ new_refusal inventory.now self.now side id.now (Some (wanted_content wanted)) ∷ [])) (λ plan. Creates inventory.now self.now moment side id.now (Some (wanted_content wanted)) plan) }
         ensures suits { IfOk result (Suits self.now) }

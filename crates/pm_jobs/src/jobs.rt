@@ -5,7 +5,7 @@ ghost use Rattle.pm_history.specs.History.{History, grown};
 ghost use Rattle.pm_inventory.specs.Inventory.{InventoryState};
 ghost use Rattle.pm_jobs.specs.Plan.{Answers, IsPlan, Suits, HasRoom, IsOver, with_state, moved_at, jobs_after, outcome_of, entries_of};
 ghost use Rattle.pm_jobs.specs.Rules.{refusal};
-ghost use Rattle.pm_jobs.specs.State.{on, with_on, load_of as load, load_on, HaveBodies};
+ghost use Rattle.pm_jobs.specs.State.{on, with_on, load_of as load, load_on, AreItems};
 ghost use Rattle.pm_jobs.specs.Stands.{Stands};
 
 use crate::{Ask, JobError, Outcome, Plan, Standing};
@@ -55,7 +55,7 @@ impl Jobs {
 
     pub(crate) fn on(&self, side: Side) -> &[Standing]
         ensures items { result.now ≡ on side self.now }
-        ensures bodies { HaveBodies side result.now }
+        ensures each { AreItems side result.now }
     {
         match side {
             Side::Job => self.jobs.as_slice(),

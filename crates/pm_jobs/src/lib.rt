@@ -25,6 +25,7 @@ mod rules;
 mod showing;
 #[cfg(test)]
 mod showing_tests;
+mod shown;
 mod standing;
 #[cfg(test)]
 mod tests;

@@ -1,10 +1,13 @@
 //! The bodies of what stands, as they are shown.
-ghost use Rattle.std.specs.Prelude.{◌≡◌, IfOk, is_some, option_and_then};
+ghost use Rattle.std.specs.Prelude.{◌≡◌, true, IfOk, is_some, option_and_then};
+ghost use Rattle.pm_form.specs.Names.{job_id};
 ghost use Rattle.pm_jobs.specs.Content.{is_unlocked};
 ghost use Rattle.pm_jobs.specs.Rules.{stands, standing_at};
 ghost use Rattle.pm_jobs.specs.Shown.{shown, body_shown};
+ghost use Rattle.pm_jobs.specs.State.{AreItems};
 
 use crate::planning::find;
+use crate::shown::{job_shown, monitor_shown};
 use crate::{BodyError, Jobs, Standing, State, read_job, read_monitor};
 use pm_base::Blob;
 use pm_history::Side;
@@ -20,13 +23,14 @@ fn state(unlocked: bool) -> State
     }
 }
 
-fn job_shown(alloc: Global, item: &Standing) -> Result<Option<Blob>, AllocError>
+fn job_now(alloc: Global, item: &Standing) -> Result<Option<Blob>, AllocError>
+    requires { job_id item.now.id ≡ true }
     ensures { IfOk result (λ o. o ≡ shown Side.Job item.now) }
 {
     match read_job(alloc, item.body.as_bytes()) {
         Ok(mut body) => {
             body.state = state(item.unlocked);
-            let text = body.to_bytes(alloc)?;
+            let text = job_shown(alloc, item.id.as_bytes(), &body)?;
             Ok(Some(text))
         }
         Err(BodyError::Memory) => Err(AllocError),
@@ -34,13 +38,14 @@ fn job_shown(alloc: Global, item: &Standing) -> Result<Option<Blob>, AllocError>
     }
 }
 
-fn monitor_shown(alloc: Global, item: &Standing) -> Result<Option<Blob>, AllocError>
+fn monitor_now(alloc: Global, item: &Standing) -> Result<Option<Blob>, AllocError>
+    requires { job_id item.now.id ≡ true }
     ensures { IfOk result (λ o. o ≡ shown Side.Monitor item.now) }
 {
     match read_monitor(alloc, item.body.as_bytes()) {
         Ok(mut body) => {
             body.state = state(item.unlocked);
-            let text = body.to_bytes(alloc)?;
+            let text = monitor_shown(alloc, item.id.as_bytes(), &body)?;
             Ok(Some(text))
         }
         Err(BodyError::Memory) => Err(AllocError),
@@ -49,11 +54,12 @@ fn monitor_shown(alloc: Global, item: &Standing) -> Result<Option<Blob>, AllocEr
 }
 
 fn item_shown(alloc: Global, side: Side, item: &Standing) -> Result<Option<Blob>, AllocError>
+    requires { job_id item.now.id ≡ true }
     ensures { IfOk result (λ o. o ≡ shown side item.now) }
 {
     match side {
-        Side::Job => job_shown(alloc, item),
-        Side::Monitor => monitor_shown(alloc, item),
+        Side::Job => job_now(alloc, item),
+        Side::Monitor => monitor_now(alloc, item),
     }
 }
 
@@ -63,6 +69,7 @@ fn shown_at(
     items: &[Standing],
     id: &[u8],
 ) -> Result<Option<Blob>, AllocError>
+    requires { AreItems side items.now }
     ensures { IfOk result (λ o. o ≡ option_and_then (shown side) (standing_at items.now id.now)) }
 {
     match find(items, id) {
@@ -72,7 +79,7 @@ fn shown_at(
 }
 
 impl Jobs {
-    /// The canonical body of what exists under an id, with the state of now.
+    /// The body of what exists under an id, with its id and the state of now.
     pub fn body(&self, alloc: Global, side: Side, id: &[u8]) -> Result<Option<Blob>, AllocError>
         ensures body { IfOk result (λ o. o ≡ body_shown self.now side id.now) }
 

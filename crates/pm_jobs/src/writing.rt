@@ -11,7 +11,7 @@ use json::Writer;
 use pm_base::Blob;
 use std::alloc::{AllocError, Global};
 
-fn state_word(state: State) -> &'static str
+pub(crate) fn state_word(state: State) -> &'static str
     ensures { result.now ≡ state_text (is_unlocked state) }
 {
     match state {
@@ -30,7 +30,7 @@ fn directions_word(directions: Directions) -> &'static str
     }
 }
 
-fn write_texts(out: &mut Writer, texts: &[String]) -> Result<(), AllocError>
+pub(crate) fn write_texts(out: &mut Writer, texts: &[String]) -> Result<(), AllocError>
     ensures { Appends result out.old out.new (array (text_items (map string_bytes texts.now))) }
 {
     out.begin_array()?;
@@ -74,7 +74,7 @@ fn write_threshold(out: &mut Writer, threshold: &Threshold) -> Result<(), AllocE
     out.end_object()
 }
 
-fn write_thresholds(out: &mut Writer, thresholds: &[Threshold]) -> Result<(), AllocError>
+pub(crate) fn write_thresholds(out: &mut Writer, thresholds: &[Threshold]) -> Result<(), AllocError>
     ensures { Appends result out.old out.new (array (threshold_items (map threshold_content thresholds.now))) }
 {
     out.begin_array()?;

@@ -21,6 +21,7 @@ short id is = leb-true (length id) 32 (second _ _ _ _ is)
 pub plan_wanted-requires : goal.plan_wanted-requires
 plan_wanted-requires c = record {
   short = short c.args.id.now (sym c.is_job_id.ensures ∙ c.if-not-is_job_id.false);
+  named = sym c.is_job_id.ensures ∙ c.if-not-is_job_id.false;
   back = c.in-Ok.ensures.back;
 }
 

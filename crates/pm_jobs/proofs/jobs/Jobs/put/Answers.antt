@@ -24,7 +24,7 @@ invariant_of-self c =
     let h = c.self.invariant in
     let total = load-insert state.jobs c.args.place c.args.standing in
     rw c.insert.ensures.items
-    (side-insert Job state.jobs c.args.place c.args.standing h.0 room.fresh room.says, h.1, omega (arith, total, room.load))
+    (side-insert Job state.jobs c.args.place c.args.standing h.0 room.fresh room.item, h.1, omega (arith, total, room.load))
 
 pub insert-requires-in-Monitor : goal.insert-requires-in-Monitor
 insert-requires-in-Monitor c =
@@ -39,4 +39,4 @@ invariant_of-self-in-Monitor c =
     let h = c.self.invariant in
     let total = load-insert state.monitors c.args.place c.args.standing in
     rw c.insert-in-Monitor.ensures.items
-    (h.0, side-insert Monitor state.monitors c.args.place c.args.standing h.1 room.fresh room.says, omega (arith, total, room.load))
+    (h.0, side-insert Monitor state.monitors c.args.place c.args.standing h.1 room.fresh room.item, omega (arith, total, room.load))
