@@ -16,7 +16,7 @@ use Rattle.std.specs.List.{All}
 use Rattle.std.proofs.lemmas.List.Elements.{All-head, All-tail}
 use Rattle.pm_file.specs.ReportForm.{object_name, moment}
 use Rattle.pm_notice.specs.NameTest.{is_file_name}
-use Rattle.pm_notice.proofs.NameTestLemmas.{is_file_name-says}
+use Rattle.pm_notice.proofs.NamePassLemmas.{is_file_name-says}
 use Rattle.pm_notice.specs.NoticeForm.{number, file_location, expires_in_a_day, listed_form, file_ready_form, direction_text, is_direction, crossing_form, are_distinct, listing_form}
 use Rattle.pm_notice.specs.NoticeContent.{listed_of, locations_of, file_ready_of, crossing_of, IsFileInfo, IsCrossed}
 use Rattle.pm_notice.specs.declared.notice.FileInfo.{FileInfo}

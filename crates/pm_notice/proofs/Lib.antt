@@ -5,7 +5,9 @@ pub mod StandLemmas
 pub mod RoundLemmas
 pub mod DeliverLemmas
 pub mod AllRoundsLemmas
+pub mod DateTestLemmas
 pub mod NameTestLemmas
+pub mod NamePassLemmas
 pub mod NoticeLemmas
 pub mod TextLemmas
 pub mod KeptLemmas

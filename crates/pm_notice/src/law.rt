@@ -1,5 +1,5 @@
 //! What holds of all subscriptions and notices.
-ghost use Rattle.pm_notice.specs.Laws.{AreExact};
+ghost use Rattle.pm_notice.specs.Laws.{AreExact, TellsFileNames};
 ghost use Rattle.pm_notice.specs.Rounds.{AreAllRounds};
 ghost use Rattle.pm_notice.specs.StandFor.{OthersStay};
 
@@ -17,4 +17,9 @@ pub fn others_stay()
 /// those over all notices. A law: the call does nothing.
 pub fn rounds_are_over_all()
     ensures { AreAllRounds }
+{}
+
+/// The test by which notices and listings name files holds exactly of file names. A law: the call does nothing.
+pub fn file_names_are_told()
+    ensures { TellsFileNames }
 {}

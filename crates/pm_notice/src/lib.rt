@@ -20,7 +20,7 @@ mod told;
 mod write;
 
 pub use error::SubError;
-pub use law::{notices_are_exact, others_stay, rounds_are_over_all};
+pub use law::{file_names_are_told, notices_are_exact, others_stay, rounds_are_over_all};
 pub use listing::{listing_text, read_listing};
 pub use notice::{Crossed, FileInfo, Notice};
 pub use read::read_notice;

@@ -1,5 +1,4 @@
-use Rattle.std.proofs.Common.{rules, sym, subst}
-use Rattle.pm_name.specs.FileName.{SaysFileName}
+use Rattle.std.proofs.Common.{rules}
 use Rattle.pm_notice.proofs.ListingLemmas.{one-file}
 use Rattle.pm_notice.proofs.read_tests.listing_of.Goals as goal
 
