@@ -13,3 +13,4 @@ pub mod GapLemmas
 pub mod NullLemmas
 pub mod FileLemmas
 pub mod FlagLemmas
+pub mod WatchedLemmas

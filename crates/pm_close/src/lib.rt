@@ -2,6 +2,7 @@
 #![tactic(auto)]
 
 mod cells;
+mod crossing;
 mod flags;
 mod law;
 mod limits;
@@ -13,9 +14,11 @@ mod report;
 mod row;
 mod value;
 mod values;
+mod watched;
 mod within;
 
 pub use cells::TickCells;
+pub use crossing::Crossing;
 pub use flags::watch_period;
 pub use law::{
     boot_counts_none, cells_known, cells_stay, due_is_file, gaps_have_no_files, marks_stay,
@@ -28,6 +31,7 @@ pub use part::PartValues;
 pub use report::{Due, OpenReport};
 pub use row::are_small;
 pub use value::period_value;
+pub use watched::{WatchedMetric, WatchedObject};
 pub use within::are_within;
 
 #[cfg(test)]
