@@ -14,3 +14,4 @@ pub mod NullLemmas
 pub mod FileLemmas
 pub mod FlagLemmas
 pub mod WatchedLemmas
+pub mod ObjectLemmas

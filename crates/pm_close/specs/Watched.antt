@@ -56,6 +56,12 @@ all_crossed id end crossings = map (crossed_as id end) crossings
 abbrev pub SlotsWithin : ℕ → List WatchedObject → Type 0
 SlotsWithin slots objects = (k : ℕ) (d : WatchedObject) → k < length objects → (slice_index_or objects k d).slot < slots
 
+-- The same objects, counted by the same slots.
+pub record SameObjects (old new : List WatchedObject) : Type 0 where
+  pub as_many : length new ≡ length old
+  pub object : (k : ℕ) (d : WatchedObject) → k < length old → (slice_index_or new k d).object ≡ (slice_index_or old k d).object
+  pub slot : (k : ℕ) (d : WatchedObject) → k < length old → (slice_index_or new k d).slot ≡ (slice_index_or old k d).slot
+
 module _ (terms : Side → List ℕ → Terms) where
   -- With a tick a granularity period ends, whose marks and cells are known; the monitor was armed before.
   pub record PeriodEnds (slots : List SlotKey) (h : History) (w : Making) (granularity armed tick : ℕ) (kept : TickCells)

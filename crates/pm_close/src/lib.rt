@@ -3,6 +3,7 @@
 
 mod cells;
 mod crossing;
+mod ended;
 mod flags;
 mod law;
 mod limits;
