@@ -15,3 +15,5 @@ pub mod FileLemmas
 pub mod FlagLemmas
 pub mod WatchedLemmas
 pub mod ObjectLemmas
+pub mod WatchesLemmas
+pub mod PassLemmas

@@ -12,9 +12,11 @@ use Rattle.pm_close.specs.declared.cells.TickCells.{TickCells}
 use Rattle.pm_close.specs.declared.marks.Marks.{Marks}
 use Rattle.pm_close.specs.declared.watched.WatchedMetric.{WatchedMetric}
 use Rattle.pm_close.specs.declared.watched.WatchedObject.{WatchedObject}
+use Rattle.pm_close.specs.declared.watches.MetricWatches.{MetricWatches}
+use Rattle.pm_close.specs.declared.monitor.OpenMonitor.{OpenMonitor}
 use Rattle.pm_close.specs.declared.crossing.Crossing.{Crossing}
 use Rattle.pm_close.specs.Flags.{WatchStands, is_upward}
-use Rattle.pm_close.specs.Marks.{PeriodStands}
+use Rattle.pm_close.specs.Marks.{MarksStand, PeriodStands}
 use Rattle.pm_close.specs.Values.{KnowsCells}
 
 abbrev pub object_numbers : List WatchedObject → List ℕ
@@ -33,6 +35,10 @@ watched_on of objects = record {
   up = of.up;
   down = of.down;
 }
+
+-- One metric of one threshold with what is kept, likewise.
+abbrev pub watched_by : MetricWatches → Watched
+watched_by metric = watched_on metric.of (object_numbers metric.objects.items)
 
 -- A crossing of a monitor at an end, as histories have it.
 abbrev pub crossed_as : List ℕ → ℕ → Crossing → Crossed
@@ -55,6 +61,11 @@ all_crossed id end crossings = map (crossed_as id end) crossings
 -- The slots of objects are among so many.
 abbrev pub SlotsWithin : ℕ → List WatchedObject → Type 0
 SlotsWithin slots objects = (k : ℕ) (d : WatchedObject) → k < length objects → (slice_index_or objects k d).slot < slots
+
+-- Those of all metrics are.
+abbrev pub AllWithin : ℕ → List MetricWatches → Type 0
+AllWithin slots metrics =
+    (k : ℕ) (d : MetricWatches) → k < length metrics → SlotsWithin slots (slice_index_or metrics k d).objects.items
 
 -- The same objects, counted by the same slots.
 pub record SameObjects (old new : List WatchedObject) : Type 0 where
@@ -80,3 +91,18 @@ module _ (terms : Side → List ℕ → Terms) where
   ObjectsStand slots h w granularity watched armed tick objects =
       (k : ℕ) (d : WatchedObject) → k < length objects
       → ObjectStands slots h w granularity watched armed tick (slice_index_or objects k d)
+
+  -- The watches of a monitor stand for its value sequences up to a tick, by threshold, metric and object.
+  pub record WatchesStand (slots : List SlotKey) (h : History) (w : Making) (granularity : ℕ) (watched : List Watched)
+      (armed tick : ℕ) (metrics : List MetricWatches) : Type 0 where
+    pub are : map watched_by metrics ≡ watched
+    pub each : (k : ℕ) (d : MetricWatches) → k < length metrics
+        → ObjectsStand slots h w granularity (watched_by (slice_index_or metrics k d)) armed tick
+        (slice_index_or metrics k d).objects.items
+
+  -- What is kept of a monitor stands for a history up to a tick: its marks and its watches.
+  pub record MonitorStands (slots : List SlotKey) (h : History) (w : Making) (granularity : ℕ) (watched : List Watched)
+      (armed tick : ℕ) (monitor : OpenMonitor) : Type 0 where
+    pub armed_before : tick_of armed ≤ tick
+    pub marks : MarksStand terms h w granularity tick monitor.marks
+    pub watches : WatchesStand slots h w granularity watched armed tick monitor.watches.metrics.items

@@ -9,6 +9,7 @@ mod law;
 mod limits;
 mod marks;
 mod measure;
+mod monitor;
 mod nulls;
 mod part;
 mod report;
@@ -16,6 +17,7 @@ mod row;
 mod value;
 mod values;
 mod watched;
+mod watches;
 mod within;
 
 pub use cells::TickCells;
@@ -28,11 +30,13 @@ pub use law::{
 pub use limits::{MOST_EVENTS, MOST_TICKS};
 pub use marks::{Marks, counts};
 pub use measure::Measure;
+pub use monitor::OpenMonitor;
 pub use part::PartValues;
 pub use report::{Due, OpenReport};
 pub use row::are_small;
 pub use value::period_value;
 pub use watched::{WatchedMetric, WatchedObject};
+pub use watches::{MetricWatches, Watches};
 pub use within::are_within;
 
 #[cfg(test)]
