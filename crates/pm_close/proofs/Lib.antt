@@ -17,3 +17,4 @@ pub mod WatchedLemmas
 pub mod ObjectLemmas
 pub mod WatchesLemmas
 pub mod PassLemmas
+pub mod MonitorLemmas

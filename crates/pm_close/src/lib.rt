@@ -12,6 +12,7 @@ mod measure;
 mod monitor;
 mod nulls;
 mod part;
+mod rearmed;
 mod report;
 mod row;
 mod value;
@@ -25,7 +26,7 @@ pub use crossing::Crossing;
 pub use flags::watch_period;
 pub use law::{
     boot_counts_none, cells_known, cells_stay, due_is_file, gaps_have_no_files, marks_stay,
-    reports_stay, sequences_take_values,
+    monitors_stay, reports_stay, sequences_take_values,
 };
 pub use limits::{MOST_EVENTS, MOST_TICKS};
 pub use marks::{Marks, counts};

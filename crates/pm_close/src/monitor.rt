@@ -28,6 +28,8 @@ pub struct OpenMonitor {
 
 impl OpenMonitor {
     ghost use Rattle.pm_close.specs.Rows.{AreSmall};
+    ghost use Rattle.pm_base.specs.Moment.{tick_of};
+    ghost use Rattle.pm_close.specs.Marks.{MarksStand};
     ghost use Rattle.pm_close.specs.Values.{IsCovered, KnowsCells};
     ghost use Rattle.pm_close.specs.Watched.{AllWithin, MonitorStands, all_crossed};
 
@@ -68,5 +70,18 @@ impl OpenMonitor {
             Some(period) => self.watches.end_period(alloc, kept, row, &period),
             None => Ok(Vec::new(alloc)),
         }
+    }
+
+    /// Begins empty value sequences, after the monitor is set to UNLOCKED: `armed` is the moment of that, in the tick up to
+    /// which ticks have ended. It takes no memory.
+    pub fn rearm(&mut self)
+        ensures stands { (terms : Side → List ℕ → Terms) (slots : List SlotKey) (h g : History) (w : Making) (granularity : ℕ) (watched : List Watched) (before armed : ℕ)
+            → MonitorStands terms slots h w granularity watched before (tick_of armed) self.old
+            → MarksStand terms g w granularity (tick_of armed) self.old.marks
+            → MonitorStands terms slots g w granularity watched armed (tick_of armed) self.new }
+        ensures within { (slots : ℕ) → AllWithin slots self.old.watches.metrics.items → AllWithin slots self.new.watches.metrics.items }
+        ensures marks { self.new.marks ≡ self.old.marks }
+    {
+        self.watches.rearm();
     }
 }

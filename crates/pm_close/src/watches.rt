@@ -18,6 +18,7 @@ use crate::cells::TickCells;
 use crate::crossing::Crossing;
 use crate::ended::end_objects;
 use crate::marks::Marks;
+use crate::rearmed::rearm_objects;
 use crate::watched::{WatchedMetric, WatchedObject};
 use pm_meas::Cell;
 use std::alloc::{AllocError, Global};
@@ -61,6 +62,17 @@ impl MetricWatches {
         end_objects(&self.of, objects, kept, row, period, suspect, crossings)?;
         Ok(())
     }
+
+    // On each object a value sequence begins.
+    fn rearm(&mut self)
+        ensures stands { (terms : Side → List ℕ → Terms) (slots : List SlotKey) (h g : History) (w : Making) (granularity before armed tick : ℕ)
+            → ObjectsStand terms slots h w granularity (watched_by self.old) before tick self.old.objects.items
+            → ObjectsStand terms slots g w granularity (watched_by self.old) armed (tick_of armed) self.new.objects.items }
+        ensures watched { watched_by self.new ≡ watched_by self.old }
+        ensures within { (slots : ℕ) → SlotsWithin slots self.old.objects.items → SlotsWithin slots self.new.objects.items }
+    {
+        rearm_objects(self.objects.as_mut_slice());
+    }
 }
 
 /// The watches of a monitor.
@@ -101,7 +113,29 @@ fn end_metrics(
     Ok(())
 }
 
+// Value sequences begin on all objects of all metrics of all thresholds.
+fn rearm_metrics(metrics: &mut [MetricWatches])
+    ensures stands { (terms : Side → List ℕ → Terms) (slots : List SlotKey) (h g : History) (w : Making) (granularity : ℕ) (watched : List Watched) (before armed tick : ℕ)
+        → WatchesStand terms slots h w granularity watched before tick metrics.old
+        → WatchesStand terms slots g w granularity watched armed (tick_of armed) metrics.new }
+    ensures within { (slots : ℕ) → AllWithin slots metrics.old → AllWithin slots metrics.new }
+{
+    for k in 0..metrics.len() {
+        metrics[k].rearm();
+    }
+}
+
 impl Watches {
+    /// Begins empty value sequences, after the monitor is set to UNLOCKED. It takes no memory.
+    pub fn rearm(&mut self)
+        ensures stands { (terms : Side → List ℕ → Terms) (slots : List SlotKey) (h g : History) (w : Making) (granularity : ℕ) (watched : List Watched) (before armed tick : ℕ)
+            → WatchesStand terms slots h w granularity watched before tick self.old.metrics.items
+            → WatchesStand terms slots g w granularity watched armed (tick_of armed) self.new.metrics.items }
+        ensures within { (slots : ℕ) → AllWithin slots self.old.metrics.items → AllWithin slots self.new.metrics.items }
+    {
+        rearm_metrics(self.metrics.as_mut_slice());
+    }
+
     /// A granularity period ends. Its crossings come by threshold, by metric in catalogue order, by object in tree order.
     /// `row` are the cells of the tick that was open when what ends ticks came. Spent after an `Err`.
     pub fn end_period(
