@@ -1,6 +1,6 @@
 //! What is kept of a monitor.
 
-ghost use Rattle.std.specs.Prelude.{◌≡◌, ◌≤◌, ◌<◌, ◌+◌, ◌^◌, ℕ, List, length, OnOk, IfOk};
+ghost use Rattle.std.specs.Prelude.{◌≡◌, ◌≤◌, ◌<◌, ◌+◌, ◌^◌, ℕ, List, [], length, OnOk, IfOk};
 ghost use Rattle.pm_inventory.specs.Inventory.{SlotKey};
 ghost use Rattle.pm_history.specs.declared.entry.Side.{Side};
 ghost use Rattle.pm_history.specs.History.{History};
@@ -29,7 +29,7 @@ pub struct OpenMonitor {
 impl OpenMonitor {
     ghost use Rattle.pm_close.specs.Rows.{AreSmall};
     ghost use Rattle.pm_base.specs.Moment.{tick_of};
-    ghost use Rattle.pm_close.specs.Marks.{MarksStand};
+    ghost use Rattle.pm_close.specs.Marks.{NoneCounted, MarksStand};
     ghost use Rattle.pm_close.specs.Values.{IsCovered, KnowsCells};
     ghost use Rattle.pm_close.specs.Watched.{AllWithin, MonitorStands, all_crossed};
 
@@ -70,6 +70,27 @@ impl OpenMonitor {
             Some(period) => self.watches.end_period(alloc, kept, row, &period),
             None => Ok(Vec::new(alloc)),
         }
+    }
+
+    /// A start of the program ends ticks up to this one, and counts none of them: there are no crossings, and all value
+    /// sequences stay. It takes no memory, and no longer than a granularity period has ticks.
+    pub fn end_with_boot(&mut self, granularity: u64, tick: u64)
+        requires few { granularity ≤ MOST_TICKS }
+        requires marks { self.old.marks.count < granularity }
+        requires reach { self.old.marks.begin + self.old.marks.count ≤ tick }
+        requires in_range { tick < 2 ^ 63 }
+        ensures stands { (terms : Side → List ℕ → Terms) (slots : List SlotKey) (h : History) (w : Making) (watched : List Watched) (armed from : ℕ)
+            → NoneCounted terms h w from tick
+            → MonitorStands terms slots h w granularity watched armed from self.old
+            → MonitorStands terms slots h w granularity watched armed tick self.new }
+        ensures none { (terms : Side → List ℕ → Terms) (h : History) (w : Making) (watched : List Watched) (armed from end : ℕ)
+            → NoneCounted terms h w from tick → from < end → end ≤ tick
+            → flat_map (crossings_by terms h w granularity armed end) watched ≡ [] }
+        ensures watches { self.new.watches ≡ self.old.watches }
+        ensures on { self.new.marks.begin + self.new.marks.count ≡ tick }
+        ensures marks { self.new.marks.count < granularity }
+    {
+        self.marks.end_uncounted(granularity, tick);
     }
 
     /// Begins empty value sequences, after the monitor is set to UNLOCKED: `armed` is the moment of that, in the tick up to

@@ -1,7 +1,7 @@
 use Rattle.std.proofs.Common.{◌≡◌, ◌+◌, ◌<◌, ◌≤◌, ℕ, List, refl, sym, ap, ◌∙◌, arith}
 use Rattle.std.proofs.lemmas.Result.{on_ok_weaker}
 use Rattle.pm_close.specs.Watched.{PeriodEnds, WatchesStand, MonitorStands, all_crossed}
-use Rattle.pm_close.proofs.PassLemmas.{watches-pass, crossings-none}
+use Rattle.pm_close.proofs.PassLemmas.{value_at-within, watches-pass, crossings-none}
 use Rattle.pm_close.proofs.monitor.OpenMonitor.end_tick.Goals as goal
 
 pub returns-in-Some-clause-stands : goal.returns-in-Some-clause-stands
@@ -42,8 +42,9 @@ returns-in-None-clause-stands c =
     record {
       armed_before = omega (arith, before);
       marks = c.in-None.ensures.stands terms h w tick stand.marks mark;
-      watches = watches-pass terms h w c.args.granularity armed tick c.args.self.now.marks before stand.marks more slots watched
-          c.args.self.now.watches.metrics.items stand.watches;
+      watches = watches-pass terms h w c.args.granularity armed tick before
+          (λ object m. value_at-within terms h w c.args.granularity object m tick c.args.self.now.marks stand.marks more)
+          slots watched c.args.self.now.watches.metrics.items stand.watches;
     }
 
 pub returns-in-None-clause-crossings : goal.returns-in-None-clause-crossings
@@ -51,4 +52,5 @@ returns-in-None-clause-crossings c =
     λ terms slots h w watched armed tick knows mark stand.
     let more : c.args.self.now.marks.count + 1 < c.args.granularity = grind (arith, c.in-None.ensures.ends) in
     ap (all_crossed w.id (tick + 1)) c.new.ensures.items
-    ∙ sym (crossings-none terms h w c.args.granularity armed tick c.args.self.now.marks stand.armed_before stand.marks more watched)
+    ∙ sym (crossings-none terms h w c.args.granularity armed (tick + 1) watched
+    (λ object m. value_at-within terms h w c.args.granularity object m tick c.args.self.now.marks stand.marks more))
