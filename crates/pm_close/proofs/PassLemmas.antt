@@ -64,14 +64,18 @@ module _ (terms : Side → List ℕ → Terms) (h : History) (w : Making) (granu
           and_none : (a : Bool) → not (a && false) ≡ true
           and_none true = refl
           and_none false = refl
+
       said : List ℕ
       said = option_to_list (measured_value terms h w object m (end - granularity) granularity)
+
       off : (a b : Bool) → cond (a && b && false) said [] ≡ []
       off true true = refl
       off true false = refl
       off false b = refl
+
       none_of : (b s : Bool) → cond (false && b && not s) said [] ≡ []
       none_of b s = refl
+
       by : (b : Bool) → leb granularity end ≡ b → value_at terms h w granularity object m end ≡ []
       by true is =
           ap (λ s. cond (leb granularity end && eqb (end % granularity) 0 && not s) said [])

@@ -1,5 +1,5 @@
 -- What a value sequence takes of a granularity period that ends, where its value is known.
-use Rattle.std.proofs.Common.{◌≡◌, ℕ, ◌+◌, List, Bool, Option, slice_index_or, refl, sym, ap, ◌∙◌}
+use Rattle.std.proofs.Common.{◌≡◌, ℕ, ◌+◌, List, Bool, Option, slice_index_or, refl, sym, ◌∙◌}
 use Rattle.pm_meas.specs.declared.cell.Cell.{Cell}
 use Rattle.pm_inventory.specs.Inventory.{SlotKey}
 use Rattle.pm_history.specs.declared.entry.Side.{Side}
@@ -25,6 +25,6 @@ pub value-taken : (terms : Side → List ℕ → Terms) (slots : List SlotKey) (
     → value_at terms h w granularity object m (tick + 1) ≡ taken value suspect
 value-taken terms slots h w granularity armed tick kept row period object slot m value suspect ends reads is suspect_is =
     let value_is = is terms slots h w (record { object = object; metric = m.number }) m granularity (tick + 1) ends.knows
-        (reads _) refl refl ends.whole in
+    (reads _) refl refl ends.whole in
     value_at-period terms h w granularity object m (tick + 1) period ends.whole
     ∙ (λ i. taken (sym value_is i) (sym suspect_is i))

@@ -1,5 +1,5 @@
 -- What is kept of the value sequences of a monitor, by threshold, metric and object.
-use Rattle.std.specs.Prelude.{ℕ, ◌+◌, ◌≤◌, ◌<◌, ◌≡◌, List, [], ◌∷◌, length, map, slice_index_or, Option, Some, None}
+use Rattle.std.specs.Prelude.{ℕ, ◌+◌, ◌≤◌, ◌<◌, ◌≡◌, List, length, map, slice_index_or}
 use Rattle.pm_base.specs.Moment.{tick_of}
 use Rattle.pm_meas.specs.declared.cell.Cell.{Cell}
 use Rattle.pm_inventory.specs.Inventory.{SlotKey}

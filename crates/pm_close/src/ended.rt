@@ -54,7 +54,7 @@ pub fn end_objects(
         → suspect ≡ is_suspect terms h w period.now.begin granularity
         → ObjectsStand terms slots h w granularity (watched_on of.now (object_numbers objects.old)) armed tick objects.old
         → OnOk result (all_crossed w.id (tick + 1) crossings.new.items ≡ all_crossed w.id (tick + 1) crossings.old.items
-            ++ crossings_by terms h w granularity armed (tick + 1) (watched_on of.now (object_numbers objects.old))) }
+        ++ crossings_by terms h w granularity armed (tick + 1) (watched_on of.now (object_numbers objects.old))) }
     ensures same { OnOk result (SameObjects objects.old objects.new) }
 {
     for k in 0..objects.len() {

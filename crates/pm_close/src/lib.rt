@@ -12,6 +12,7 @@ mod measure;
 mod monitor;
 mod nulls;
 mod part;
+mod reading;
 mod rearmed;
 mod report;
 mod row;
@@ -33,6 +34,7 @@ pub use marks::{Marks, counts};
 pub use measure::Measure;
 pub use monitor::OpenMonitor;
 pub use part::PartValues;
+pub use reading::slots_within;
 pub use report::{Due, OpenReport};
 pub use row::are_small;
 pub use value::period_value;
@@ -40,5 +42,7 @@ pub use watched::{WatchedMetric, WatchedObject};
 pub use watches::{MetricWatches, Watches};
 pub use within::are_within;
 
+#[cfg(test)]
+mod monitor_tests;
 #[cfg(test)]
 mod tests;

@@ -60,7 +60,7 @@ impl OpenMonitor {
             → KnowsCells slots h kept.now row.now → mark ≡ is_counted terms h w tick
             → MonitorStands terms slots h w granularity watched armed tick self.old
             → IfOk result (λ crossings. all_crossed w.id (tick + 1) crossings.items
-                ≡ flat_map (crossings_by terms h w granularity armed (tick + 1)) watched) }
+            ≡ flat_map (crossings_by terms h w granularity armed (tick + 1)) watched) }
         ensures within { OnOk result (AllWithin kept.now.slots self.new.watches.metrics.items) }
         ensures covered { OnOk result (IsCovered kept.now self.new.marks) }
         ensures marks { OnOk result (self.new.marks.count < granularity) }

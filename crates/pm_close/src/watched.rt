@@ -47,7 +47,12 @@ impl WatchedMetric {
     ghost use Rattle.pm_close.specs.Watched.{watched_on, all_crossed};
 
     // The crossing that an answer tells.
-    fn crossing(&self, object: u16, value: Option<u64>, answer: Option<Direction>) -> Option<Crossing>
+    fn crossing(
+        &self,
+        object: u16,
+        value: Option<u64>,
+        answer: Option<Direction>,
+    ) -> Option<Crossing>
         ensures { (id objects : List ℕ) (end : ℕ) → all_crossed id end (option_to_list result)
             ≡ crossing_told id (watched_on self.now objects) object end value answer }
     {

@@ -54,7 +54,7 @@ impl MetricWatches {
             → suspect ≡ is_suspect terms h w period.now.begin granularity
             → ObjectsStand terms slots h w granularity (watched_by self.old) armed tick self.old.objects.items
             → OnOk result (all_crossed w.id (tick + 1) crossings.new.items ≡ all_crossed w.id (tick + 1) crossings.old.items
-                ++ crossings_by terms h w granularity armed (tick + 1) (watched_by self.old)) }
+            ++ crossings_by terms h w granularity armed (tick + 1) (watched_by self.old)) }
         ensures watched { OnOk result (watched_by self.new ≡ watched_by self.old) }
         ensures within { OnOk result (SlotsWithin kept.now.slots self.new.objects.items) }
     {
@@ -104,7 +104,7 @@ fn end_metrics(
         → suspect ≡ is_suspect terms h w period.now.begin granularity
         → WatchesStand terms slots h w granularity watched armed tick metrics.old
         → OnOk result (all_crossed w.id (tick + 1) crossings.new.items ≡ all_crossed w.id (tick + 1) crossings.old.items
-            ++ flat_map (crossings_by terms h w granularity armed (tick + 1)) watched) }
+        ++ flat_map (crossings_by terms h w granularity armed (tick + 1)) watched) }
     ensures within { OnOk result (AllWithin kept.now.slots metrics.new) }
 {
     for k in 0..metrics.len() {
@@ -157,7 +157,7 @@ impl Watches {
             → PeriodEnds terms slots h w granularity armed tick kept.now row.now period.now
             → WatchesStand terms slots h w granularity watched armed tick self.old.metrics.items
             → IfOk result (λ crossings. all_crossed w.id (tick + 1) crossings.items
-                ≡ flat_map (crossings_by terms h w granularity armed (tick + 1)) watched) }
+            ≡ flat_map (crossings_by terms h w granularity armed (tick + 1)) watched) }
         ensures within { OnOk result (AllWithin kept.now.slots self.new.metrics.items) }
     {
         let suspect = period.is_suspect();

@@ -1,4 +1,4 @@
-use Rattle.std.proofs.Common.{◌≡◌, ◌≤◌, ◌<◌, ◌+◌, ◌++◌, ℕ, List, length, take, get_or, refl, sym, ap, subst, ◌∙◌, arith, option_to_list}
+use Rattle.std.proofs.Common.{◌<◌, ◌+◌, ◌++◌, length, sym, ap, subst, ◌∙◌, arith, option_to_list}
 use Rattle.std.proofs.lemmas.List.{get_or-map, length-map, take_all}
 use Rattle.pm_history.specs.Notices.{crossing_at}
 use Rattle.std.specs.List.{flat_map}
@@ -23,14 +23,14 @@ loop-k-preserved c =
       stand = λ terms slots h w granularity armed tick numbers ends suspect stand.
           let of = watched_on c.args.of.now numbers in
           let old = subst (ObjectStands terms slots h w granularity of armed tick) (sym (was.later k _ (omega arith)))
-              (stand k _ inside) in
+          (stand k _ inside) in
           fact-more (ObjectStands terms slots h w granularity of armed (tick + 1)) now k new room
           (c.end_period-crossing.ensures.stands terms slots h w granularity armed tick numbers ends suspect old)
           (was.stand terms slots h w granularity armed tick numbers ends suspect stand);
       crossed = λ terms slots h w granularity armed tick numbers ends suspect stand.
           let of = watched_on c.args.of.now numbers in
           let old = subst (ObjectStands terms slots h w granularity of armed tick) (sym (was.later k _ (omega arith)))
-              (stand k _ inside) in
+          (stand k _ inside) in
           let long = length-map before (λ (o : WatchedObject). o.object) in
           crossed-more (crossing_at terms h w granularity armed (tick + 1) of) (crossed_as w.id (tick + 1)) (object_numbers before) k _
           (all_crossed w.id (tick + 1) c.args.crossings.now.items) c.loop-k.crossings.items (option_to_list c.end_period-crossing.result) _

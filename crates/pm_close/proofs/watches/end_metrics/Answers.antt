@@ -1,10 +1,10 @@
-use Rattle.std.proofs.Common.{◌≡◌, ◌≤◌, ◌<◌, ◌+◌, ◌++◌, ℕ, List, length, map, take, get_or, sym, ap, subst, ◌∙◌, arith}
+use Rattle.std.proofs.Common.{◌≤◌, ◌<◌, ◌+◌, ◌++◌, ℕ, length, map, sym, ap, subst, ◌∙◌, arith}
 use Rattle.std.specs.List.{flat_map}
-use Rattle.std.proofs.lemmas.List.{get_or-map, length-map, length-set, same_lists, take_all}
+use Rattle.std.proofs.lemmas.List.{get_or-map, length-map, length-set, take_all}
 use Rattle.pm_history.specs.Notices.{crossings_by}
 use Rattle.pm_close.specs.declared.watches.MetricWatches.{MetricWatches}
-use Rattle.pm_close.specs.Watched.{ObjectsStand, SlotsWithin, watched_by, crossed_as, all_crossed}
-use Rattle.pm_close.proofs.ObjectLemmas.{fact-more, fact-set, field-more, later-more, crossed-more}
+use Rattle.pm_close.specs.Watched.{ObjectsStand, SlotsWithin, watched_by, all_crossed}
+use Rattle.pm_close.proofs.ObjectLemmas.{fact-more, fact-set, field-more, later-more}
 use Rattle.pm_close.proofs.WatchesLemmas.{map-same, crossings-more}
 use Rattle.pm_close.proofs.watches.end_metrics.Goals as goal
 

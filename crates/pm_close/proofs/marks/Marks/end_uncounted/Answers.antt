@@ -1,4 +1,4 @@
-use Rattle.std.proofs.Common.{ℕ, suc, sym, ap, ◌∙◌, ◌≡◌, ◌≤◌, ◌<◌, ◌+◌, ◌*◌, ◌-◌, ◌/◌, ◌%◌, arith, suc-mul}
+use Rattle.std.proofs.Common.{ℕ, suc, sym, ap, ◌∙◌, ◌≤◌, ◌<◌, ◌+◌, ◌*◌, ◌-◌, ◌/◌, ◌%◌, arith, suc-mul}
 use Rattle.std.proofs.lemmas.Nat.{mul-le}
 use Rattle.std.proofs.Math.Nat.{le-div_iff_mul-le, mod-eq-sub-div-mul}
 use Rattle.pm_close.proofs.marks.Marks.end_uncounted.Goals as goal
@@ -21,7 +21,7 @@ returns-then-self-granularity-clause-stands c =
     let within = stand.within in
     let begin = c.unmarked.ensures.begin in
     let past = last-multiple stand.periods c.args.granularity c.args.tick (omega (arith, within))
-        (omega (arith, begins, c.if-self-granularity.true)) in
+    (omega (arith, begins, c.if-self-granularity.true)) in
     c.unmarked.ensures.stands terms h w (λ t later before. none t (omega (arith, later, begin, past, begins, reach, within)) before)
 
 pub loop-t-preserved : goal.loop-t-preserved

@@ -1,4 +1,4 @@
-use Rattle.std.proofs.Common.{◌≡◌, ◌+◌, ◌<◌, ◌≤◌, ℕ, List, refl, sym, ap, ◌∙◌, arith}
+use Rattle.std.proofs.Common.{◌+◌, ◌<◌, sym, ap, ◌∙◌, arith}
 use Rattle.std.proofs.lemmas.Result.{on_ok_weaker}
 use Rattle.pm_close.specs.Watched.{PeriodEnds, WatchesStand, MonitorStands, all_crossed}
 use Rattle.pm_close.proofs.PassLemmas.{value_at-within, watches-pass, crossings-none}
@@ -14,8 +14,8 @@ returns-in-Some-clause-stands c =
     } in
     let before = stand.armed_before in
     let next : WatchesStand terms slots h w c.args.granularity watched armed (tick + 1) c.end_period.new.self.metrics.items
-        → MonitorStands terms slots h w c.args.granularity watched armed (tick + 1)
-        (record { marks = c.end_tick.new.self; watches = c.end_period.new.self }) = λ now. record {
+    → MonitorStands terms slots h w c.args.granularity watched armed (tick + 1)
+    (record { marks = c.end_tick.new.self; watches = c.end_period.new.self }) = λ now. record {
       armed_before = omega (arith, before);
       marks = c.in-Some.ensures.stands terms h w tick stand.marks mark;
       watches = now;

@@ -1,4 +1,4 @@
-use Rattle.std.proofs.Common.{◌≡◌, ◌≤◌, ◌<◌, ◌+◌, ◌-◌, ℕ, subst, arith}
+use Rattle.std.proofs.Common.{◌≡◌, ◌≤◌, ◌<◌, ◌+◌, ◌-◌, subst, arith}
 use Rattle.pm_close.specs.Watched.{WatchesStand}
 use Rattle.pm_close.proofs.PassLemmas.{value_at-uncounted, watches-pass_all, crossings-none}
 use Rattle.pm_close.proofs.monitor.OpenMonitor.end_with_boot.Goals as goal

@@ -1,4 +1,4 @@
-use Rattle.std.proofs.Common.{◌≤◌, arith}
+use Rattle.std.proofs.Common.{arith}
 use Rattle.pm_base.specs.Moment.{tick_of}
 use Rattle.pm_close.proofs.monitor.OpenMonitor.rearm.Goals as goal
 

@@ -1,11 +1,10 @@
-use Rattle.std.proofs.Common.{◌≡◌, ◌≤◌, ◌<◌, ◌+◌, ◌-◌, ◌*◌, ◌/◌, ◌%◌, ℕ, List, false, Option, Some, None, refl, sym, ap, subst, ◌∙◌, arith, inl, inr}
+use Rattle.std.proofs.Common.{◌≡◌, ◌≤◌, ◌<◌, ◌+◌, ◌-◌, ◌*◌, ◌/◌, ◌%◌, ℕ, false, Option, Some, None, refl, sym, ap, subst, ◌∙◌, arith, inl, inr}
 use Rattle.std.proofs.lemmas.Bool.{cases_lt}
 use Rattle.std.proofs.lemmas.Nat.{mul-le}
 use Rattle.std.proofs.Math.Nat.{le-div_iff_mul-le, mod-eq-sub-div-mul}
 use Rattle.pm_history.specs.Terms.{reporting}
 use Rattle.pm_history.specs.Files.{is_due}
 use Rattle.pm_close.specs.declared.report.Due.{Due}
-use Rattle.pm_close.specs.declared.report.OpenReport.{OpenReport}
 use Rattle.pm_close.specs.Reports.{ReportStands, NoneDue, EndsTick}
 use Rattle.pm_close.proofs.report.OpenReport.end_with_boot.Goals as goal
 
@@ -68,8 +67,8 @@ loop-t-preserved c =
           let later : from ≤ tick = omega (arith, first, before) in
           let now = was.stand terms slots h w t from earlier knows reads granularity parts stand none in
           let ended = none_of (EndsTick terms h w t (tick + 1) earlier c.end_tick.new.self) c.in_ok-due.due c.in_default.not-Some
-              (c.in_ok-due.ensures.stands terms slots h w t tick earlier knows reads granularity parts now.0
-              (sym (none tick later more))) in (
+          (c.in_ok-due.ensures.stands terms slots h w t tick earlier knows reads granularity parts now.0
+          (sym (none tick later more))) in (
             ended.0,
             λ end after le. elim (cases_lt end (tick + 1)) [
               | inl below ↦ now.1 end after (omega (arith, below))

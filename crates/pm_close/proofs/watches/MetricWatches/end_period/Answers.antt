@@ -1,6 +1,5 @@
-use Rattle.std.proofs.Common.{◌≡◌, ◌+◌, List, ℕ, length, sym, ap, subst, ◌∙◌}
+use Rattle.std.proofs.Common.{◌+◌, length, sym, ap, subst, ◌∙◌}
 use Rattle.std.proofs.lemmas.List.{with_items_is}
-use Rattle.pm_close.specs.declared.watched.WatchedObject.{WatchedObject}
 use Rattle.pm_close.specs.Watched.{ObjectsStand, watched_by, watched_on, object_numbers}
 use Rattle.pm_close.proofs.ObjectLemmas.{numbers-same}
 use Rattle.pm_close.proofs.watches.MetricWatches.end_period.Goals as goal
