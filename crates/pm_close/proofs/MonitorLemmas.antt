@@ -34,7 +34,8 @@ object-stays terms slots h e w granularity watched armed tick object le over old
       };
     }
 
-pub monitors-stay : (terms : Side → List ℕ → Terms) (slots : List SlotKey) (h : History) (e : Entry) (w : Making) (granularity : ℕ)
+pub monitors-stay : (terms : Side → List ℕ → Terms) (slots : List SlotKey) (h : History) (e : Entry) (w :
+    Making) (granularity : ℕ)
     (watched : List Watched) (armed tick : ℕ) (monitor : OpenMonitor)
     → last_moment h ≤ moment_of e → tick ≤ tick_of (last_moment h)
     → MonitorStands terms slots h w granularity watched armed tick monitor

@@ -74,7 +74,8 @@ within-same slots before now same within k d lt =
     subst (λ s. s < slots) (sym (same.slot k d (omega (arith, lt, as_many)))) old
 
 -- the crossings of one more object
-pub crossed-more : {X C D : Type 0} (f : X → List D) (g : C → D) (numbers : List X) (k : ℕ) (n : X) (bs : List D) (items more new : List C)
+pub crossed-more : {X C D : Type 0} (f : X → List D) (g : C → D) (numbers : List X) (k : ℕ) (n : X) (bs : List
+    D) (items more new : List C)
     → k < length numbers → get_or numbers k n ≡ n → new ≡ items ++ more
     → map g items ≡ bs ++ flat_map f (take k numbers) → map g more ≡ f n
     → map g new ≡ bs ++ flat_map f (take (k + 1) numbers)

@@ -32,10 +32,13 @@ loop-k-preserved c =
           let old = subst (ObjectStands terms slots h w granularity of armed tick) (sym (was.later k _ (omega arith)))
           (stand k _ inside) in
           let long = length-map before (λ (o : WatchedObject). o.object) in
-          crossed-more (crossing_at terms h w granularity armed (tick + 1) of) (crossed_as w.id (tick + 1)) (object_numbers before) k _
-          (all_crossed w.id (tick + 1) c.args.crossings.now.items) c.loop-k.crossings.items (option_to_list c.end_period-crossing.result) _
+          crossed-more (crossing_at terms h w granularity armed (tick + 1) of) (crossed_as w.id (tick + 1))
+          (object_numbers before) k _
+          (all_crossed w.id (tick + 1) c.args.crossings.now.items) c.loop-k.crossings.items (option_to_list
+          c.end_period-crossing.result) _
           (omega (arith, long, inside))
-          (get_or-map (λ (o : WatchedObject). o.object) before k _ _ inside ∙ sym (ap (λ (o : WatchedObject). o.object) (was.later k _ (omega arith))))
+          (get_or-map (λ (o : WatchedObject). o.object) before k _ _ inside ∙ sym (ap (λ (o : WatchedObject).
+          o.object) (was.later k _ (omega arith))))
           c.in_ok-push_some.ensures
           (was.crossed terms slots h w granularity armed tick numbers ends suspect stand)
           (c.end_period-crossing.ensures.crossing terms slots h w granularity armed tick numbers ends suspect old);

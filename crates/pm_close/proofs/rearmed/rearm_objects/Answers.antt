@@ -19,7 +19,8 @@ loop-k-preserved c =
       same = same-more before now k _ new room c.rearm.ensures.object c.rearm.ensures.slot was.same;
       later = later-more before now k new was.later;
       stand = λ terms slots h g w granularity watched earlier armed tick stand.
-          let old = subst (ObjectStands terms slots h w granularity watched earlier tick) (sym (was.later k _ self)) (stand k _ inside) in
+          let old = subst (ObjectStands terms slots h w granularity watched earlier tick) (sym (was.later k _
+          self)) (stand k _ inside) in
           fact-more (ObjectStands terms slots g w granularity watched armed (tick_of armed)) now k new room
           (c.rearm.ensures.stands terms slots h g w granularity watched earlier armed tick old)
           (was.stand terms slots h g w granularity watched earlier armed tick stand);

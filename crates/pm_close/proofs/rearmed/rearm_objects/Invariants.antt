@@ -13,7 +13,8 @@ abbrev pub invariant-loop-k : goal.invariant-loop-k
 invariant-loop-k l = record {
   same : SameObjects l.fn.objects l.objects;
   later : (j : ℕ) (d : WatchedObject) → l.k ≤ j → slice_index_or l.objects j d ≡ slice_index_or l.fn.objects j d;
-  stand : (terms : Side → List ℕ → Terms) (slots : List SlotKey) (h g : History) (w : Making) (granularity : ℕ) (watched : Watched)
+  stand : (terms : Side → List ℕ → Terms) (slots : List SlotKey) (h g : History) (w : Making) (granularity : ℕ)
+      (watched : Watched)
       (before armed tick : ℕ)
       → ObjectsStand terms slots h w granularity watched before tick l.fn.objects
       → (j : ℕ) (d : WatchedObject) → j < l.k

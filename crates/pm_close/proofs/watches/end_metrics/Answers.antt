@@ -23,7 +23,8 @@ loop-k-preserved c =
     record {
       as_many = length-set now k new ∙ as_many;
       watched = λ j d lt. field-more watched_by before now k _ new room ended.watched j d (was.watched j d lt);
-      within = λ j d lt. fact-set (λ m. SlotsWithin c.args.kept.now.slots m.objects.items) now k new room ended.within j d (was.within j d lt);
+      within = λ j d lt. fact-set (λ m. SlotsWithin c.args.kept.now.slots m.objects.items) now k new room
+          ended.within j d (was.within j d lt);
       later = later-more before now k new was.later;
       stand = λ terms slots h w granularity watched armed tick ends suspect stand.
           let P : ℕ → MetricWatches → Type 0 = λ t m.
@@ -36,10 +37,12 @@ loop-k-preserved c =
       crossed = λ terms slots h w granularity watched armed tick ends suspect stand.
           let long = length-map before watched_by in
           let lt : k < length (map watched_by before) = omega (arith, long, inside) in
-          let old = subst (λ (m : MetricWatches). ObjectsStand terms slots h w granularity (watched_by m) armed tick m.objects.items)
+          let old = subst (λ (m : MetricWatches). ObjectsStand terms slots h w granularity (watched_by m) armed
+          tick m.objects.items)
           (sym (was.later k _ self)) (stand.each k _ inside) in
           let at = get_or-map watched_by before k _ _ inside ∙ sym (ap watched_by (was.later k _ self)) in
-          crossings-more (crossings_by terms h w granularity armed (tick + 1)) (all_crossed w.id (tick + 1) c.args.crossings.now.items) _ _
+          crossings-more (crossings_by terms h w granularity armed (tick + 1)) (all_crossed w.id (tick + 1)
+          c.args.crossings.now.items) _ _
           (map watched_by before) k _ lt at
           (was.crossed terms slots h w granularity watched armed tick ends suspect stand)
           (ended.crossings terms slots h w granularity armed tick ends suspect old);
@@ -66,4 +69,10 @@ returns-clause-crossings c =
     c.loop-k.invariant.crossed terms slots h w granularity watched armed tick ends suspect stand
     ∙ ap (λ ws. all_crossed w.id (tick + 1) c.args.crossings.now.items
     ++ flat_map (crossings_by terms h w granularity armed (tick + 1)) ws)
-    (take_all c.loop-k.k (map watched_by before) (omega (arith, long, as_many, c.loop-k-test.false, c.loop-k.auto.metrics)) ∙ stand.are)
+    (take_all c.loop-k.k (map watched_by before) (omega (
+      arith,
+      long,
+      as_many,
+      c.loop-k-test.false,
+      c.loop-k.auto.metrics,
+    )) ∙ stand.are)

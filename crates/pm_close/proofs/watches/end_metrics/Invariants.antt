@@ -16,16 +16,19 @@ invariant-loop-k l = record {
   as_many : length l.metrics ≡ length l.fn.metrics;
   watched : (j : ℕ) (d : MetricWatches) → j < length l.fn.metrics
       → watched_by (slice_index_or l.metrics j d) ≡ watched_by (slice_index_or l.fn.metrics j d);
-  within : (j : ℕ) (d : MetricWatches) → j < length l.fn.metrics → SlotsWithin l.kept.slots (slice_index_or l.metrics j d).objects.items;
+  within : (j : ℕ) (d : MetricWatches) → j < length l.fn.metrics
+      → SlotsWithin l.kept.slots (slice_index_or l.metrics j d).objects.items;
   later : (j : ℕ) (d : MetricWatches) → l.k ≤ j → slice_index_or l.metrics j d ≡ slice_index_or l.fn.metrics j d;
-  stand : (terms : Side → List ℕ → Terms) (slots : List SlotKey) (h : History) (w : Making) (granularity : ℕ) (watched : List Watched) (armed tick : ℕ)
+  stand : (terms : Side → List ℕ → Terms) (slots : List SlotKey) (h : History) (w : Making) (granularity : ℕ)
+      (watched : List Watched) (armed tick : ℕ)
       → PeriodEnds terms slots h w granularity armed tick l.kept l.row l.period
       → l.suspect ≡ is_suspect terms h w l.period.begin granularity
       → WatchesStand terms slots h w granularity watched armed tick l.fn.metrics
       → (j : ℕ) (d : MetricWatches) → j < l.k
       → ObjectsStand terms slots h w granularity (watched_by (slice_index_or l.metrics j d)) armed (tick + 1)
       (slice_index_or l.metrics j d).objects.items;
-  crossed : (terms : Side → List ℕ → Terms) (slots : List SlotKey) (h : History) (w : Making) (granularity : ℕ) (watched : List Watched) (armed tick : ℕ)
+  crossed : (terms : Side → List ℕ → Terms) (slots : List SlotKey) (h : History) (w : Making) (granularity : ℕ)
+      (watched : List Watched) (armed tick : ℕ)
       → PeriodEnds terms slots h w granularity armed tick l.kept l.row l.period
       → l.suspect ≡ is_suspect terms h w l.period.begin granularity
       → WatchesStand terms slots h w granularity watched armed tick l.fn.metrics

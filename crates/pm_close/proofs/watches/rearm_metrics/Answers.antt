@@ -26,7 +26,8 @@ loop-k-preserved c =
           (c.rearm.ensures.within slots (was.within slots all k _ inside)) j d (was.within slots all j d lt);
       later = later-more before now k new was.later;
       stand = λ terms slots h g w granularity watched earlier armed tick stand.
-          let P : MetricWatches → Type 0 = λ m. ObjectsStand terms slots h w granularity (watched_by m) earlier tick m.objects.items in
+          let P : MetricWatches → Type 0 = λ m. ObjectsStand terms slots h w granularity (watched_by m) earlier
+          tick m.objects.items in
           let Q : MetricWatches → Type 0 = λ m.
           ObjectsStand terms slots g w granularity (watched_by m) armed (tick_of armed) m.objects.items in
           let old = subst P (sym (was.later k _ self)) (stand.each k _ inside) in

@@ -17,7 +17,8 @@ invariant-loop-k l = record {
   within : (slots : ℕ) → AllWithin slots l.fn.metrics → (j : ℕ) (d : MetricWatches) → j < length l.fn.metrics
       → SlotsWithin slots (slice_index_or l.metrics j d).objects.items;
   later : (j : ℕ) (d : MetricWatches) → l.k ≤ j → slice_index_or l.metrics j d ≡ slice_index_or l.fn.metrics j d;
-  stand : (terms : Side → List ℕ → Terms) (slots : List SlotKey) (h g : History) (w : Making) (granularity : ℕ) (watched : List Watched)
+  stand : (terms : Side → List ℕ → Terms) (slots : List SlotKey) (h g : History) (w : Making) (granularity : ℕ)
+      (watched : List Watched)
       (before armed tick : ℕ)
       → WatchesStand terms slots h w granularity watched before tick l.fn.metrics
       → (j : ℕ) (d : MetricWatches) → j < l.k

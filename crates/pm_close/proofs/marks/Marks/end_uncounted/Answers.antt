@@ -22,7 +22,15 @@ returns-then-self-granularity-clause-stands c =
     let begin = c.unmarked.ensures.begin in
     let past = last-multiple stand.periods c.args.granularity c.args.tick (omega (arith, within))
     (omega (arith, begins, c.if-self-granularity.true)) in
-    c.unmarked.ensures.stands terms h w (λ t later before. none t (omega (arith, later, begin, past, begins, reach, within)) before)
+    c.unmarked.ensures.stands terms h w (λ t later before. none t (omega (
+      arith,
+      later,
+      begin,
+      past,
+      begins,
+      reach,
+      within,
+    )) before)
 
 pub loop-t-preserved : goal.loop-t-preserved
 loop-t-preserved c =

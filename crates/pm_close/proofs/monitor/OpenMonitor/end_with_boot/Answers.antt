@@ -18,7 +18,8 @@ returns-clause-stands c =
       marks = c.end_uncounted.ensures.stands terms h w from stand.marks none;
       watches = subst (λ t. WatchesStand terms slots h w g watched armed t c.args.self.now.watches.metrics.items) at
           (watches-pass_all terms h w g slots watched c.args.self.now.watches.metrics.items armed from (tick - from) before
-          (λ end after within object m. value_at-uncounted terms h w g object m from tick end some none after (omega (arith, within, at)))
+          (λ end after within object m. value_at-uncounted terms h w g object m from tick end some none after
+          (omega (arith, within, at)))
           stand.watches);
     }
 
@@ -26,4 +27,7 @@ pub returns-clause-none : goal.returns-clause-none
 returns-clause-none c =
     λ terms h w watched armed from end none after within.
     crossings-none terms h w c.args.granularity armed end watched
-    (λ object m. value_at-uncounted terms h w c.args.granularity object m from c.args.tick end (omega (arith, c.requires.marks)) none after within)
+    (λ object m. value_at-uncounted terms h w c.args.granularity object m from c.args.tick end (omega (
+      arith,
+      c.requires.marks,
+    )) none after within)

@@ -31,14 +31,20 @@ returns-in-Some-clause-stands c =
     let later : from ≤ tick = omega (arith, first, before) in
     let now = was.stand terms slots h w t from earlier knows reads granularity parts stand none in
     let ended = subst (EndsTick terms h w t (tick + 1) earlier c.end_tick.new.self) c.in-Some.is
-    (c.in_ok-due.ensures.stands terms slots h w t tick earlier knows reads granularity parts now.0 (sym (none tick later more))) in
+    (c.in_ok-due.ensures.stands terms slots h w t tick earlier knows reads granularity parts now.0 (sym (none
+    tick later more))) in
     let product : c.args.parts * c.args.granularity ≡ reporting t = λ i. sym parts i * sym granularity i in
     let begins = ended.0.begins in
     let at = ended.2 in
     let unfinished = ended.0.unfinished in
     let within = ended.0.marks.within in
     let some = mul-le 1 1 t.parts t.granularity (omega (arith, unfinished)) (omega (arith, within)) in
-    let last = multiple-before ended.0.reports (reporting t) c.args.tick (omega (arith, some)) (omega (arith, begins, at, more)) in
+    let last = multiple-before ended.0.reports (reporting t) c.args.tick (omega (arith, some)) (omega (
+      arith,
+      begins,
+      at,
+      more,
+    )) in
     let begin = c.in_ok-self.ensures.begin ∙ ap (λ r. c.args.tick - c.args.tick % r) product in
     record {
       end = tick + 1;
@@ -82,7 +88,12 @@ loop-t-preserved c =
 pub returns-clause-stands : goal.returns-clause-stands
 returns-clause-stands c =
     λ terms slots h w t from earlier knows reads granularity parts stand none.
-    let start : c.begin.result + c.count.result ≤ c.args.tick = omega (arith, c.begin.ensures, c.count.ensures, c.requires.reach) in
+    let start : c.begin.result + c.count.result ≤ c.args.tick = omega (
+      arith,
+      c.begin.ensures,
+      c.count.ensures,
+      c.requires.reach,
+    ) in
     let up = c.loop-t.auto._t-end start in
     let at : c.loop-t._t ≡ c.args.tick = omega (arith, c.loop-t-test.false, up) in
     subst (λ tick. ReportStands terms h w t tick earlier c.loop-t.self × NoneDue terms h w t from tick) at

@@ -13,7 +13,8 @@ returns-clause-stands c =
     let is = with_items_is c.args.self.now.objects c.end_objects.new.objects (as_many ∙ (ap length value ∙ sym held)) in
     let watched = watched_by c.args.self.now in
     subst (ObjectsStand terms slots h w granularity watched armed (tick + 1)) (sym is)
-    (c.in_ok-end_objects.ensures.stands terms slots h w granularity armed tick (object_numbers c.args.self.now.objects.items) ends suspect
+    (c.in_ok-end_objects.ensures.stands terms slots h w granularity armed tick (object_numbers
+    c.args.self.now.objects.items) ends suspect
     (subst (ObjectsStand terms slots h w granularity watched armed tick) (sym value) stand))
 
 pub returns-clause-watched : goal.returns-clause-watched
