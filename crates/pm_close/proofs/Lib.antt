@@ -13,3 +13,8 @@ pub mod GapLemmas
 pub mod NullLemmas
 pub mod FileLemmas
 pub mod FlagLemmas
+pub mod WatchedLemmas
+pub mod ObjectLemmas
+pub mod WatchesLemmas
+pub mod PassLemmas
+pub mod MonitorLemmas

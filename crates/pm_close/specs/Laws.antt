@@ -9,7 +9,7 @@ use Rattle.pm_history.specs.declared.entry.Entry.TheVariants.{Boot, Now}
 use Rattle.pm_meas.specs.declared.cell.Cell.{Cell}
 use Rattle.pm_history.specs.Entry.{moment_of}
 use Rattle.pm_history.specs.History.{History, ◌▷◌, IsHistory, size, last_moment, before}
-use Rattle.pm_history.specs.Terms.{Terms, reporting}
+use Rattle.pm_history.specs.Terms.{Terms, Watched, reporting}
 use Rattle.pm_history.specs.Ticks.{behind}
 use Rattle.pm_history.specs.Standing.{Making, Standing, making_of, standing_after}
 use Rattle.pm_history.specs.Counted.{is_counted}
@@ -28,6 +28,8 @@ use Rattle.pm_close.specs.Values.{KnowsCells}
 use Rattle.pm_close.specs.Reports.{ReportStands, DueStands}
 use Rattle.pm_close.specs.Files.{report_with}
 use Rattle.pm_close.specs.Flags.{taken}
+use Rattle.pm_close.specs.declared.monitor.OpenMonitor.{OpenMonitor}
+use Rattle.pm_close.specs.Watched.{MonitorStands}
 
 -- Kept cells stand as well after an entry in the tick of the last moment.
 abbrev pub CellsStay : Type 0
@@ -63,6 +65,15 @@ ReportsStay =
     (report : OpenReport)
     → last_moment h ≤ moment_of e → tick ≤ tick_of (last_moment h)
     → ReportStands terms h w t tick earlier report → ReportStands terms (h ▷ e) w t tick earlier report
+
+-- What is kept of a monitor stands as well after any entry that doesn't arm it again.
+abbrev pub MonitorsStay : Type 0
+MonitorsStay =
+    (terms : Side → List ℕ → Terms) (slots : List SlotKey) (h : History) (e : Entry) (w : Making) (granularity : ℕ)
+    (watched : List Watched) (armed tick : ℕ) (monitor : OpenMonitor)
+    → last_moment h ≤ moment_of e → tick ≤ tick_of (last_moment h)
+    → MonitorStands terms slots h w granularity watched armed tick monitor
+    → MonitorStands terms slots (h ▷ e) w granularity watched armed tick monitor
 
 -- A report that is due is the file of the job at that end, where some tick of it is counted.
 abbrev pub DueIsFile : Type 0

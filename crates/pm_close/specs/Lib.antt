@@ -6,4 +6,5 @@ pub mod Parts
 pub mod Reports
 pub mod Files
 pub mod Flags
+pub mod Watched
 pub mod Laws

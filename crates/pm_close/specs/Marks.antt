@@ -1,5 +1,5 @@
 -- What marks stand for: of the ticks of a granularity period, which are counted for a job or a monitor (this project's own).
-use Rattle.std.specs.Prelude.{ℕ, ◌+◌, ◌*◌, ◌<◌, ◌≡◌, Bool, false, List, slice_index_or}
+use Rattle.std.specs.Prelude.{ℕ, ◌+◌, ◌*◌, ◌<◌, ◌≤◌, ◌≡◌, Bool, false, List, slice_index_or}
 use Rattle.pm_history.specs.declared.entry.Side.{Side}
 use Rattle.pm_history.specs.History.{History}
 use Rattle.pm_history.specs.Terms.{Terms}
@@ -15,6 +15,10 @@ module _ (terms : Side → List ℕ → Terms) where
   -- Each mark says whether its tick is counted.
   abbrev pub AreCounted : History → Making → Marks → Type 0
   AreCounted h w marks = (k : ℕ) → k < marks.count → mark_at marks k ≡ is_counted terms h w (marks.begin + k)
+
+  -- No tick from one to another, which is left out, is counted.
+  abbrev pub NoneCounted : History → Making → ℕ → ℕ → Type 0
+  NoneCounted h w from tick = (t : ℕ) → from ≤ t → t < tick → is_counted terms h w t ≡ false
 
   -- Marks stand for the granularity period that holds a tick, up to that tick, which is left out.
   pub record MarksStand (h : History) (w : Making) (granularity tick : ℕ) (marks : Marks) : Type 0 where

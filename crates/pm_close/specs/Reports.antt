@@ -57,4 +57,23 @@ module _ (terms : Side → List ℕ → Terms) where
   -- With a tick no report ends; or one does, as its due says, and the next one begins.
   abbrev pub EndsTick : History → Making → Terms → ℕ → List PartValues → OpenReport → Option Due → Type 0
   EndsTick h w t end earlier report None = ReportStands h w t end earlier report × (is_due terms h w t end ≡ false)
-  EndsTick h w t end earlier report (Some due) = ReportStands h w t end [] report × DueStands h w t end earlier due
+  EndsTick h w t end earlier report (Some due) = ReportStands h w t end [] report × DueStands h w t end earlier due × (report.begin ≡ end)
+
+  -- No report is due from after one tick up to another.
+  abbrev pub NoneDue : History → Making → Terms → ℕ → ℕ → Type 0
+  NoneDue h w t from tick = (end : ℕ) → from < end → end ≤ tick → is_due terms h w t end ≡ false
+
+  -- Of ticks that aren't counted, one ends the report that was open; no report ends before it.
+  pub record EndsInGap (h : History) (w : Making) (t : Terms) (from tick : ℕ) (earlier : List PartValues) (report : OpenReport)
+      (due : Due) : Type 0 where
+    pub end : ℕ
+    pub after : from < end
+    pub within : end ≤ tick
+    pub ended : DueStands h w t end earlier due
+    pub next : ReportStands h w t tick [] report
+    pub first : (e : ℕ) → from < e → e < end → is_due terms h w t e ≡ false
+
+  -- With ticks that aren't counted no report ends; or the one that was open does, and what is kept goes on behind them all.
+  abbrev pub EndsTicks : History → Making → Terms → ℕ → ℕ → List PartValues → OpenReport → Option Due → Type 0
+  EndsTicks h w t from tick earlier report None = ReportStands h w t tick earlier report × NoneDue h w t from tick
+  EndsTicks h w t from tick earlier report (Some due) = EndsInGap h w t from tick earlier report due

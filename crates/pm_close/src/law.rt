@@ -1,5 +1,5 @@
 //! What holds of kept cells and of marks over every history.
-ghost use Rattle.pm_close.specs.Laws.{BootCountsNone, CellsKnown, CellsStay, DueIsFile, GapsHaveNoFiles, MarksStay, ReportsStay, SequencesTakeValues};
+ghost use Rattle.pm_close.specs.Laws.{BootCountsNone, CellsKnown, CellsStay, DueIsFile, GapsHaveNoFiles, MarksStay, MonitorsStay, ReportsStay, SequencesTakeValues};
 
 /// An entry in the tick of the last moment leaves what is kept. A law: the call does nothing.
 pub fn cells_stay()
@@ -29,6 +29,11 @@ pub fn gaps_have_no_files()
 /// An entry leaves what is kept of a job up to a tick. A law: the call does nothing.
 pub fn reports_stay()
     ensures { ReportsStay }
+{}
+
+/// An entry leaves what is kept of a monitor up to a tick. A law: the call does nothing.
+pub fn monitors_stay()
+    ensures { MonitorsStay }
 {}
 
 /// The parts of a report that is due make the file of its reporting period. A law: the call does nothing.

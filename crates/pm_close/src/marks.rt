@@ -25,7 +25,7 @@ pub struct Marks {
 }
 
 impl Marks {
-    ghost use Rattle.pm_close.specs.Marks.{mark_at, AreCounted, MarksStand, PeriodStands, IsMarked};
+    ghost use Rattle.pm_close.specs.Marks.{mark_at, AreCounted, NoneCounted, MarksStand, PeriodStands, IsMarked};
 
     /// The marks of something new, or of something after a gap: no tick of the open period is counted, up to this one.
     pub fn unmarked(granularity: u64, tick: u64) -> Marks
@@ -79,6 +79,7 @@ impl Marks {
         ensures ends { IsSome result ↔ (self.old.count + 1 ≡ granularity) }
         ensures within { self.new.count < granularity }
         ensures marks { MatchOption result (IsMarked self.old mark self.new) (IsMarked self.old mark) }
+        ensures on { self.new.begin + self.new.count ≡ self.old.begin + self.old.count + 1 }
         ensures next { IsSome result → (self.new.begin ≡ self.old.begin + granularity) × (self.new.count ≡ 0) }
     {
         self.push(mark);
@@ -88,6 +89,26 @@ impl Marks {
         let period = *self;
         self.begin_next(granularity);
         Some(period)
+    }
+
+    /// Ticks up to this one are over, and none of them is counted. It takes no longer than a granularity period has ticks.
+    pub fn end_uncounted(&mut self, granularity: u64, tick: u64)
+        requires few { granularity ≤ MOST_TICKS }
+        requires within { self.old.count < granularity }
+        requires reach { self.old.begin + self.old.count ≤ tick }
+        requires in_range { tick < 2 ^ 63 }
+        ensures stands { (terms : Side → List ℕ → Terms) (h : History) (w : Making) (from : ℕ) → MarksStand terms h w granularity from self.old
+            → NoneCounted terms h w from tick → MarksStand terms h w granularity tick self.new }
+        ensures reach { self.new.begin + self.new.count ≡ tick }
+        ensures within { self.new.count < granularity }
+    {
+        if self.begin + granularity <= tick {
+            *self = Marks::unmarked(granularity, tick);
+            return;
+        }
+        for _t in self.begin + self.count as u64..tick {
+            self.end_tick(granularity, false);
+        }
     }
 
     /// The first tick.

@@ -42,10 +42,10 @@ pub struct Due {
 
 impl OpenReport {
     ghost use Rattle.pm_close.specs.Rows.{AreSmall};
-    ghost use Rattle.pm_close.specs.Marks.{mark_at};
+    ghost use Rattle.pm_close.specs.Marks.{mark_at, NoneCounted};
     ghost use Rattle.pm_close.specs.Values.{IsCovered, KnowsCells};
     ghost use Rattle.pm_close.specs.Parts.{AreWithin, ReadEach, quantities_of};
-    ghost use Rattle.pm_close.specs.Reports.{ReportStands, ReportReaches, EndsTick};
+    ghost use Rattle.pm_close.specs.Reports.{ReportStands, ReportReaches, EndsTick, EndsTicks};
 
     /// The open report of a job that was just made, or of any after a gap: no tick of its reporting period is counted. A
     /// part has so many values.
@@ -132,6 +132,46 @@ impl OpenReport {
     {
         self.end_part(alloc, kept, row, measures, granularity, mark)?;
         Ok(self.take_due(alloc, parts))
+    }
+
+    /// A start of the program ends ticks up to this one, and counts none of them. Answers the report that was open, if it ends
+    /// with one of them: what is kept then goes on at the last of them. Spent after an `Err`.
+    pub fn end_with_boot(
+        &mut self,
+        alloc: Global,
+        kept: &TickCells,
+        row: &[Cell],
+        measures: &[Measure],
+        granularity: u64,
+        parts: u64,
+        tick: u64,
+    ) -> Result<Option<Due>, AllocError>
+        requires few { granularity ≤ MOST_TICKS }
+        requires some_parts { 0 < parts }
+        requires few_parts { parts < 2 ^ 32 }
+        requires within { self.old.marks.count < granularity }
+        requires reach { self.old.marks.begin + self.old.marks.count ≤ tick }
+        requires in_range { tick < 2 ^ 63 }
+        requires slots { AreWithin kept.now.slots measures.now }
+        requires wide { length row.now ≡ kept.now.slots }
+        requires small { AreSmall row.now }
+        requires covered { IsCovered kept.now self.old.marks }
+        requires ahead { kept.now.first ≤ self.old.marks.begin + self.old.marks.count }
+        ensures stands { (terms : Side → List ℕ → Terms) (slots : List SlotKey) (h : History) (w : Making) (t : Terms) (from : ℕ) (earlier : List PartValues)
+            → KnowsCells slots h kept.now row.now → ReadEach slots measures.now (quantities_of t.measured) → t.granularity ≡ granularity → t.parts ≡ parts
+            → ReportStands terms h w t from earlier self.old → NoneCounted terms h w from tick
+            → IfOk result (EndsTicks terms h w t from tick earlier self.new) }
+        ensures within { OnOk result (self.new.marks.count < granularity) }
+        ensures on { OnOk result (self.new.marks.begin + self.new.marks.count ≡ tick) }
+    {
+        for _t in self.marks.begin() + self.marks.count() as u64..tick {
+            let due = self.end_tick(alloc, kept, row, measures, granularity, parts, false)?;
+            if let Some(due) = due {
+                *self = OpenReport::unmarked(alloc, measures.len(), granularity, parts, tick)?;
+                return Ok(Some(due));
+            }
+        }
+        Ok(None)
     }
 
     // A granularity period ended.

@@ -10,7 +10,7 @@ use std::process::Abort;
 use std::test::Fail;
 
 // A request ends ticks.
-fn end_with_now(
+pub fn end_with_now(
     rt: &impl Abort,
     kept: &mut TickCells,
     row: &[Cell],
@@ -30,7 +30,12 @@ fn end_with_now(
 }
 
 // A start of the program cuts ticks.
-fn end_with_boot(rt: &impl Abort, kept: &mut TickCells, from: u64, tick: u64) -> Result<(), Fail> {
+pub fn end_with_boot(
+    rt: &impl Abort,
+    kept: &mut TickCells,
+    from: u64,
+    tick: u64,
+) -> Result<(), Fail> {
     assert!(rt; tick < 1_000_000_000);
     assert!(rt; from <= tick);
     assert!(rt; kept.end() <= tick);

@@ -28,6 +28,8 @@ returns-clause-due c =
     let no_more = reaches.no_more in
     let whole : length (earlier ++ c.args.self.now.parts.items) ≡ t.parts = omega
     (arith, all, before, own, held, parts, no_more, c.if-self-len.false) in
+    let reach = reaches.marks.reach in
+    let empty = reaches.full whole in
     let due = report-due terms h w t tick earlier c.args.self.now whole reaches in
     let same = ap (λ v. v.items) c.replace.ensures.value in (
       next-stands terms h w t tick earlier c.args.self.now _ whole c.begin-self.ensures refl
@@ -38,4 +40,5 @@ returns-clause-due c =
         parts = subst (λ ps. AreParts terms h w t c.args.self.now.begin (earlier ++ ps)) (sym same) reaches.parts;
         counted = due.1;
       },
+      c.begin-self.ensures ∙ omega (arith, reach, empty),
     )
