@@ -1,7 +1,7 @@
 -- What exists has a body to be shown, and an id that is text.
-use Rattle.std.proofs.Common.{◌≡◌, ℕ, zero, suc, ◌<◌, ◌&&◌, ◌||◌, Bool, true, false, cond, List, [], ◌∷◌, length, get_or, Option, Some, None, refl, sym, ap, ◌∙◌, arith}
+use Rattle.std.proofs.Common.{◌≡◌, ℕ, zero, suc, ◌<◌, ◌&&◌, ◌||◌, Bool, true, false, cond, List, [], ◌∷◌, length, get_or, Option, Some, None, refl, ap, ◌∙◌, arith}
 use Rattle.std.specs.Prelude.{Result, Ok, Err, is_some, option_and_then, IsSome, IfOk}
-use Rattle.std.specs.List.{list_any, find, AllByRecursion}
+use Rattle.std.specs.List.{list_any}
 use Rattle.std.specs.Option.{option_map}
 use Rattle.std.specs.Str.{bytes_eq, IsUtf8}
 use Rattle.std.specs.List.{list_all}
@@ -13,7 +13,6 @@ use Rattle.pm_form.specs.Names.{job_id}
 use Rattle.pm_form.proofs.NameLemmas.{IsJobId-job_id}
 use Rattle.pm_history.specs.declared.entry.Side.{Side}
 use Rattle.pm_history.specs.declared.entry.Side.TheVariants.{Job, Monitor}
-use Rattle.pm_asked.specs.Body.{JobBody, MonitorBody}
 use Rattle.pm_asked.specs.BodyReading.{job_body, monitor_body}
 use Rattle.pm_jobs.specs.declared.standing.Standing.{Standing}
 use Rattle.pm_jobs.specs.Asked.{asked_of}

@@ -6,11 +6,16 @@ use std::test::Fail;
 const MONITOR: &[u8] =
     br#"{"monitorGranularityPeriod":60,"objectInstances":["ManagedElement=ME1,GNBDUFunction=1,NRCellDU=7"],"rootObjectInstances":["ManagedElement=ME1,GNBCUCPFunction=1"],"thresholdInfoList":[{"performanceMetrics":["VS.SetupTime","RRC.ConnMax"],"thresholdDirection":"UP","thresholdValue":7,"hysteresis":2},{"performanceMetrics":["VS"],"thresholdDirection":"UP_AND_DOWN","thresholdValue":9}]}"#;
 
-const UNLOCKED: &[u8] =
+// Its canonical text.
+const CANONICAL: &[u8] =
     br#"{"administrativeState":"UNLOCKED","monitorGranularityPeriod":60,"objectInstances":["ManagedElement=ME1,GNBDUFunction=1,NRCellDU=7"],"rootObjectInstances":["ManagedElement=ME1,GNBCUCPFunction=1"],"thresholdInfoList":[{"hysteresis":2,"performanceMetrics":["VS.SetupTime","RRC.ConnMax"],"thresholdDirection":"UP","thresholdValue":7},{"hysteresis":0,"performanceMetrics":["VS"],"thresholdDirection":"UP_AND_DOWN","thresholdValue":9}]}"#;
 
+// What is shown of it, under the id `m`.
+const UNLOCKED: &[u8] =
+    br#"{"administrativeState":"UNLOCKED","monitorGranularityPeriod":60,"monitorId":"m","objectInstances":["ManagedElement=ME1,GNBDUFunction=1,NRCellDU=7"],"operationalState":"ENABLED","rootObjectInstances":["ManagedElement=ME1,GNBCUCPFunction=1"],"thresholdInfoList":[{"hysteresis":2,"performanceMetrics":["VS.SetupTime","RRC.ConnMax"],"thresholdDirection":"UP","thresholdValue":7},{"hysteresis":0,"performanceMetrics":["VS"],"thresholdDirection":"UP_AND_DOWN","thresholdValue":9}]}"#;
+
 const LOCKED: &[u8] =
-    br#"{"administrativeState":"LOCKED","monitorGranularityPeriod":60,"objectInstances":["ManagedElement=ME1,GNBDUFunction=1,NRCellDU=7"],"rootObjectInstances":["ManagedElement=ME1,GNBCUCPFunction=1"],"thresholdInfoList":[{"hysteresis":2,"performanceMetrics":["VS.SetupTime","RRC.ConnMax"],"thresholdDirection":"UP","thresholdValue":7},{"hysteresis":0,"performanceMetrics":["VS"],"thresholdDirection":"UP_AND_DOWN","thresholdValue":9}]}"#;
+    br#"{"administrativeState":"LOCKED","monitorGranularityPeriod":60,"monitorId":"m","objectInstances":["ManagedElement=ME1,GNBDUFunction=1,NRCellDU=7"],"operationalState":"ENABLED","rootObjectInstances":["ManagedElement=ME1,GNBCUCPFunction=1"],"thresholdInfoList":[{"hysteresis":2,"performanceMetrics":["VS.SetupTime","RRC.ConnMax"],"thresholdDirection":"UP","thresholdValue":7},{"hysteresis":0,"performanceMetrics":["VS"],"thresholdDirection":"UP_AND_DOWN","thresholdValue":9}]}"#;
 
 fn turn(
     jobs: &mut Jobs,
@@ -60,7 +65,7 @@ fn what_exists_keeps_the_numbers_of_what_it_asks_for(rt: HostRuntime) -> Result<
     if jobs.count(Side::Monitor) == 2 {
         let item = jobs.at(Side::Monitor, 0);
         assert_eq!(rt; item.id.as_bytes(), b"a".as_slice());
-        assert_eq!(rt; item.body.as_bytes(), UNLOCKED);
+        assert_eq!(rt; item.body.as_bytes(), CANONICAL);
         assert_eq!(rt; (item.changed, item.armed), (60, 60));
         assert_eq!(rt; (item.granularity, item.reporting), (60, 0));
         assert_eq!(rt; item.metrics.as_slice(), [5, 6, 7, 8].as_slice());

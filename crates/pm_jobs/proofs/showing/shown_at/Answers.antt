@@ -1,4 +1,4 @@
-use Rattle.std.proofs.Common.{◌≡◌, true, sym, ap, ◌∙◌}
+use Rattle.std.proofs.Common.{ap, ◌∙◌}
 use Rattle.pm_form.specs.Names.{job_id}
 use Rattle.pm_jobs.specs.declared.standing.Standing.{Standing}
 use Rattle.pm_jobs.proofs.ShownLemmas.{id_at}
