@@ -9,6 +9,8 @@ mod fields;
 mod job_reading;
 mod jobs;
 mod limits;
+#[cfg(test)]
+mod list_tests;
 mod load;
 #[cfg(test)]
 mod load_tests;
