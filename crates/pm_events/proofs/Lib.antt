@@ -4,3 +4,4 @@ pub mod SameNamesLemmas
 pub mod SlotTableLemmas
 pub mod LastWordLemmas
 pub mod ReaderLemmas
+pub mod BatchLineLemmas

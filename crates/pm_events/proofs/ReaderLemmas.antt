@@ -36,7 +36,7 @@ onto b true word rest fails = absurd (cc (fails))
 onto b false word rest fails = refl
 
 -- a word without a space is the first word of a line
-word-first : (word rest : List ℕ) → HasNoSpace word → words_of (word ++ 32 ∷ rest) ≡ word ∷ words_of rest
+pub word-first : (word rest : List ℕ) → HasNoSpace word → words_of (word ++ 32 ∷ rest) ≡ word ∷ words_of rest
 word-first [] rest lacks = refl
 word-first (b ∷ word) rest lacks =
     ap (λ (l : List (List ℕ)). cond (eqb b 32) ([] ∷ l) (onto_first b l)) (word-first word rest (All-tail (λ x. x ≢ 32) b word lacks))
@@ -52,13 +52,13 @@ word-alone (b ∷ word) lacks =
 digit-is : (b : ℕ) → is_ascii_digit b ≡ true → b ≢ 32
 digit-is b digit is = let fails = digit-fails b digit in let meets : eqb b 32 ≡ true = eq-eqb b 32 is in cc
 
-digits-lack-space : (word : List ℕ) → list_all is_ascii_digit word ≡ true → HasNoSpace word
+pub digits-lack-space : (word : List ℕ) → list_all is_ascii_digit word ≡ true → HasNoSpace word
 digits-lack-space [] digits = All-nil (λ x. x ≢ 32)
 digits-lack-space (b ∷ word) digits =
     All-cons (λ x. x ≢ 32) b word (digit-is b (first-of (is_ascii_digit b) (list_all is_ascii_digit word) digits))
     (digits-lack-space word (second-of (is_ascii_digit b) (list_all is_ascii_digit word) digits))
 
-moment-digits : (word : List ℕ) → is_moment word ≡ true → list_all is_ascii_digit word ≡ true
+pub moment-digits : (word : List ℕ) → is_moment word ≡ true → list_all is_ascii_digit word ≡ true
 moment-digits word is = second-of _ (list_all is_ascii_digit word) (first-of (is_number 12 word) (nat_le (number_of word) 253402300799) is)
 
 moment-short : (word : List ℕ) → is_moment word ≡ true → length word ≤ 12

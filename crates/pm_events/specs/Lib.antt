@@ -2,3 +2,4 @@ pub mod SamePieces
 pub mod SlotTableFields
 pub mod EventLine
 pub mod Event
+pub mod BatchLine

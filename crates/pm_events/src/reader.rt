@@ -126,7 +126,7 @@ fn is_same(a: &[u8; 8], b: &[u8; 8]) -> bool
 
 // The event of this moment with these words behind it. None says nothing.
 #[inline(always)]
-fn event_behind(slots: &SlotTable, moment: u64, words: &[u8]) -> Option<Event>
+pub(crate) fn event_behind(slots: &SlotTable, moment: u64, words: &[u8]) -> Option<Event>
     ensures event { IfSome result (λ event. (word : List ℕ) → is_moment word ≡ true → moment ≡ number_of word → read_event slots.now (word ++ 32 ∷ words.now) ≡ Ok event) }
     ensures sound { IfSome result (λ event. (event.value ≤ MAX_VALUE) × (event.slot < length slots.now)) }
 {

@@ -50,6 +50,7 @@ impl SlotTable {
     pub fn len(&self) -> u16
         ensures value { result ≡ length self.now }
         ensures most { result ≤ MAX_SLOTS }
+        ensures distinct { AreDistinct self.now }
     {
         self.entries.len() as u16
     }

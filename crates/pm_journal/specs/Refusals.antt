@@ -21,13 +21,14 @@ is_store_fault (Err Memory) = false
 
 -- `open`. A foreign area reads as it did. One that is fresh and finds no room reads as it did too, and has no image that it
 -- didn't have.
-abbrev pub RefusesToOpen : ℕ → Area → Told → Told → JournalError → Type 0
-RefusesToOpen limit area old new StoreFault = Unit {0}
-RefusesToOpen limit area old new Foreign = IsForeign limit (of old.now area).seen × ((of new.now area).seen ≡ (of old.now area).seen)
-RefusesToOpen limit area old new (Garbled offset) = ⊥
-RefusesToOpen limit area old new (StoreFull length' need) =
-    (length' ≡ 0) × (need ≡ 9) × (length (of old.now area).seen ≤ 9) × (limit < 9) × Throughout (KeepsArea area old.now) old new
-RefusesToOpen limit area old new Memory = ⊥
+abbrev pub RefusesToOpen : (IsTold : Type 0) → ℕ → Area → Told → Told → JournalError → Type 0
+RefusesToOpen IsTold limit area old new StoreFault = Unit {0}
+RefusesToOpen IsTold limit area old new Foreign =
+    IsTold → IsForeign limit (of old.now area).seen × ((of new.now area).seen ≡ (of old.now area).seen)
+RefusesToOpen IsTold limit area old new (Garbled offset) = ⊥
+RefusesToOpen IsTold limit area old new (StoreFull length' need) =
+    (length' ≡ 0) × (need ≡ 9) × (limit < 9) × (IsTold → (length (of old.now area).seen ≤ 9) × Throughout (KeepsArea area old.now) old new)
+RefusesToOpen IsTold limit area old new Memory = ⊥
 
 -- `next`. But for a fault, the journal and the disk are as before. Memory comes only where an item is to be handed out.
 abbrev pub RefusesNext : (IsTold : Type 0) → Journal → Journal → Told → Told → JournalError → Type 0

@@ -65,7 +65,7 @@ impl Journal {
         ensures untouched { D.IsTold → 9 < length (of (D.told disk.old).now area).seen
             → Throughout (KeepsArea area (D.told disk.old).now) (D.told disk.old) (D.told disk.new) }
 
-        ensures refused { D.IsTold → IfErr result (RefusesToOpen limit area (D.told disk.old) (D.told disk.new)) }
+        ensures refused { IfErr result (RefusesToOpen D.IsTold limit area (D.told disk.old) (D.told disk.new)) }
         ensures faults { D.faults disk.new ≡ faults_after (is_store_fault result) (D.faults disk.old) }
     {
         let length = begin(disk, area, limit)?;

@@ -27,7 +27,7 @@ pub fn begin<D: Disk>(disk: &mut D, area: Area, limit: u64) -> Result<u64, Journ
     ensures within { IfOk result (λ n. (9 ≤ n) × (n ≤ limit)) }
     ensures any_moment { D.IsTold → Throughout (KeepsLists area (D.told disk.old).now) (D.told disk.old) (D.told disk.new) }
     ensures untouched { D.IsTold → 9 < length (of (D.told disk.old).now area).seen → Throughout (KeepsArea area (D.told disk.old).now) (D.told disk.old) (D.told disk.new) }
-    ensures refused { D.IsTold → IfErr result (RefusesToOpen limit area (D.told disk.old) (D.told disk.new)) }
+    ensures refused { IfErr result (RefusesToOpen D.IsTold limit area (D.told disk.old) (D.told disk.new)) }
     ensures faults { D.faults disk.new ≡ faults_after (is_store_fault result) (D.faults disk.old) }
 {
     let n = measure(disk, area)?;

@@ -1,5 +1,5 @@
 -- What a feed holds, and what its calls take of what is left to it and its source (this project's own).
-use Rattle.std.specs.Prelude.{Result, Ok, Err, ◌≡◌, ◌⊎◌, ◌+◌, ◌-◌, ◌^◌, ◌<◌, ◌≤◌, ℕ, Bool, true, false, List, [], ◌∷◌, ◌++◌, length, take}
+use Rattle.std.specs.Prelude.{Result, Ok, Err, ◌≡◌, ◌⊎◌, ◌+◌, ◌-◌, ◌<◌, ◌≤◌, ℕ, Bool, true, false, List, [], ◌∷◌, ◌++◌, length, take}
 use Rattle.pm_outside.specs.declared.feed.TheConstants.{MOST_READ}
 use Rattle.pm_outside.specs.declared.feed.FeedError.{FeedError}
 use Rattle.pm_outside.specs.declared.feed.FeedError.TheVariants.{Failed, Limit}

@@ -8,3 +8,9 @@ pub mod Memory
 pub mod Posts
 pub mod Marks
 pub mod MemoryCourier
+pub mod Readings
+pub mod MemoryClock
+pub mod Exchanges
+pub mod MemoryLink
+pub mod Connections
+pub mod MemoryDoors
