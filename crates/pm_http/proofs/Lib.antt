@@ -3,6 +3,7 @@ pub mod PatternLemmas
 pub mod ResourceLemmas
 pub mod RouteLemmas
 pub mod ReplyLemmas
+mod PhraseLemmas
 pub mod FieldLemmas
 pub mod ReadsLemmas
 pub mod HeadLemmas
@@ -16,3 +17,4 @@ pub mod QueryLemmas
 pub mod StreamLawLemmas
 pub mod StopsLemmas
 pub mod SeenLemmas
+pub mod ReplyReadLemmas

@@ -5,6 +5,7 @@ pub mod Reply
 pub mod Outgoing
 pub mod Head
 pub mod Fields
+pub mod Answer
 pub mod Stream
 pub mod StreamLaw
 pub mod Piece

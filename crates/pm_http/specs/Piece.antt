@@ -5,7 +5,7 @@ use Rattle.httparse.specs.Spans.{IsRequestWithin, IsRequestAt}
 use Rattle.httparse.specs.declared.spans.HeaderSpan.{HeaderSpan}
 use Rattle.httparse.specs.declared.spans.RequestSpans.{RequestSpans}
 use Rattle.pm_outside.specs.declared.feed.TheConstants.{MOST_READ}
-use Rattle.pm_base.specs.Lines.{MOST_LINE, HasNoLineFeed}
+use Rattle.pm_base.specs.Lines.{HasNoLineFeed}
 use Rattle.pm_http.specs.declared.piece.Piece.{Piece}
 use Rattle.pm_http.specs.declared.piece.Piece.TheVariants.{Line, Part, End, Limit}
 use Rattle.pm_http.specs.declared.sight.Sight.{Sight}
@@ -14,7 +14,7 @@ use Rattle.pm_http.specs.declared.head_end.HeadEnd.{HeadEnd}
 use Rattle.pm_http.specs.declared.head_end.HeadEnd.TheVariants as ends
 use Rattle.pm_http.specs.declared.error.HttpError.{HttpError}
 use Rattle.pm_http.specs.declared.error.HttpError.TheVariants as http
-use Rattle.pm_http.specs.Stream.{MOST_HEAD, looked_at, HasHead, IsUnfinished, EndsInHead, HoldsNoHead, EndsInRequest, readable, StopsAtFault, StopsForMemory}
+use Rattle.pm_http.specs.Stream.{MOST_HEAD, looked_at, HasHead, IsUnfinished, EndsInHead, HoldsNoHead, EndsInRequest, StopsAtFault, StopsForMemory}
 
 -- The most bytes of a piece: a line and its line feed.
 abbrev pub MOST_PIECE : ℕ

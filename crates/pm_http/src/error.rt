@@ -17,6 +17,17 @@ pub enum HttpError {
     Memory,
 }
 
+/// Why no reply is read.
+#[derive(Clone, Copy, Debug, PartialEq, Eq, Error)]
+pub enum AnswerError {
+    /// The bytes are no head of at most 64 fields, one of which tells the length of a body, and that body.
+    #[error("the bytes are not one reply with a body of the length that its head tells")]
+    X1,
+    /// Out of memory for the body.
+    #[error("out of memory for the body of a reply")]
+    Memory,
+}
+
 /// Why a request takes no route.
 #[derive(Debug, Drop, Error)]
 pub enum RouteError {

@@ -1,6 +1,9 @@
 //! Requests read from a stream of bytes, the routes that they take, and the replies that are written.
 #![tactic(auto)]
 
+mod answer;
+#[cfg(test)]
+mod answer_tests;
 mod body;
 mod connection;
 mod cutting;
@@ -35,7 +38,8 @@ mod taking;
 mod tests;
 mod trimming;
 
-pub use error::{HttpError, QueryError, ReplyError, RouteError};
+pub use answer::{Answer, read_answer};
+pub use error::{AnswerError, HttpError, QueryError, ReplyError, RouteError};
 pub use law::{one_next, one_step};
 pub use next::Next;
 pub use query::{Query, read_query};

@@ -1,7 +1,7 @@
 //! The writing of replies.
 ghost use Rattle.std.specs.Prelude.{◌≡◌, ◌≢◌, ◌++◌, ℕ, List, length, codes, unwrap_or, Err};
 ghost use Rattle.std.specs.Result.{is_err};
-ghost use Rattle.http.specs.StatusCode.{reason_phrase, IsStatusCode};
+ghost use Rattle.http.specs.StatusCode.{reason_phrase};
 ghost use Rattle.pm_outside.specs.Causes.{faults_after};
 ghost use Rattle.pm_http.specs.Reply.{content_of, status_line, content_fields, body_fields, allow_field, moment_field, close_field, head_text, has_body, body_text, reply_text, Writes};
 ghost use Rattle.pm_http.specs.Outgoing.{IsOnWay};
@@ -26,7 +26,6 @@ pub fn write_reply<K: Sink>(
     moment: u64,
     close: bool,
 ) -> Result<(), ReplyError>
-    requires { IsStatusCode reply.now.status }
     ensures told { K.IsTold → Writes (K.written sink.old) (K.written sink.new) (reply_text reply.now moment close) result }
     ensures no_memory { result ≢ Err ReplyError.Memory }
     ensures counted { K.faults sink.new ≡ faults_after (is_err result) (K.faults sink.old) }
@@ -48,8 +47,7 @@ fn write_with<K: Sink>(
     moment: u64,
     close: bool,
 ) -> Result<(), ReplyError>
-    requires status { IsStatusCode reply.now.status }
-    requires content { content.now ≡ content_of reply.now }
+    requires { content.now ≡ content_of reply.now }
     ensures told { K.IsTold → Writes (K.written sink.old) (K.written sink.new) (reply_text reply.now moment close) result }
     ensures no_memory { result ≢ Err ReplyError.Memory }
     ensures counted { K.faults sink.new ≡ faults_after (is_err result) (K.faults sink.old) }
@@ -69,8 +67,7 @@ fn pass_head<K: Sink>(
     moment: u64,
     close: bool,
 )
-    requires status { IsStatusCode reply.now.status }
-    requires size { size ≡ length (content_of reply.now) }
+    requires { size ≡ length (content_of reply.now) }
     ensures on { K.IsTold → (start text : List ℕ) → IsOnWay start text (K.written sink.old) out.old → IsOnWay start (text ++ head_text reply.now moment close) (K.written sink.new) out.new }
     ensures counted { (faults : ℕ) → K.faults sink.old ≡ faults_after out.old.failed faults → K.faults sink.new ≡ faults_after out.new.failed faults }
 {
@@ -84,7 +81,6 @@ fn pass_head<K: Sink>(
 
 // The status line.
 fn pass_status<K: Sink>(out: &mut Outgoing, sink: &mut K, status: u16)
-    requires { IsStatusCode status }
     ensures on { K.IsTold → (start text : List ℕ) → IsOnWay start text (K.written sink.old) out.old → IsOnWay start (text ++ status_line status) (K.written sink.new) out.new }
     ensures counted { (faults : ℕ) → K.faults sink.old ≡ faults_after out.old.failed faults → K.faults sink.new ≡ faults_after out.new.failed faults }
 {
@@ -160,9 +156,8 @@ fn is_body_written(reply: &Reply) -> bool
     reply.status != 204 && !reply.head
 }
 
-// The phrase of a status.
+// The phrase of a status, where it has one.
 fn phrase_of(status: u16) -> &'static str
-    requires { IsStatusCode status }
     ensures { result.now ≡ unwrap_or (reason_phrase status) (codes "") }
 {
     match StatusCode::from_u16(status) {

@@ -1,5 +1,4 @@
 //! What no contract says of routes, replies and queries: that the calls succeed, and what the tables mean.
-ghost use Rattle.http.specs.StatusCode.{IsStatusCode};
 
 use crate::*;
 use pm_base::{Blob, Code, Text};
@@ -82,9 +81,7 @@ fn is_text(
     head: bool,
     close: bool,
     text: &[u8],
-) -> Result<bool, AllocError>
-    requires { IsStatusCode status }
-{
+) -> Result<bool, AllocError> {
     let reply = Reply {
         status,
         code,

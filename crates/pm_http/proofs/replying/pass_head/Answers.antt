@@ -7,4 +7,4 @@ unfolding head_text
 returns-clause-on g c =
     λ told start text way.
     let all = c.pass.ensures.on told start _ (c.pass_close.ensures.on told start _ (c.pass_moment.ensures.on told start _ (c.pass_allow.ensures.on told start _ (c.pass_content_fields.ensures.on told start _ (c.pass_status.ensures.on told start text way))))) in
-    simp append_assoc (simp append_assoc at (rw (c.as_bytes.ensures.value, c.requires.size) at all))
+    simp append_assoc (simp append_assoc at (rw (c.as_bytes.ensures.value, c.requires) at all))
