@@ -7,4 +7,13 @@ pub mod Reports
 pub mod Files
 pub mod Flags
 pub mod Watched
+pub mod WatchedOf
+pub mod OpenMonitors
+pub mod MonitorPlans
 pub mod Laws
+pub mod Measures
+pub mod OpenJobs
+pub mod DueReports
+pub mod Following
+pub mod ClosedMonitors
+pub mod Closer

@@ -11,6 +11,10 @@ use Rattle.pm_close.specs.declared.marks.Marks.{Marks}
 abbrev pub mark_at : Marks → ℕ → Bool
 mark_at marks k = slice_index_or marks.marks k false
 
+-- No tick before this one is marked.
+abbrev pub NoneMarkedBefore : ℕ → Marks → Type 0
+NoneMarkedBefore first marks = (k : ℕ) → k < marks.count → marks.begin + k < first → mark_at marks k ≡ false
+
 module _ (terms : Side → List ℕ → Terms) where
   -- Each mark says whether its tick is counted.
   abbrev pub AreCounted : History → Making → Marks → Type 0

@@ -49,6 +49,8 @@ module _ (terms : Side → List ℕ → Terms) where
 
   -- A report that ended has all parts of its reporting period; there is a file of it where some tick of them is counted.
   pub record DueStands (h : History) (w : Making) (t : Terms) (end : ℕ) (earlier : List PartValues) (due : Due) : Type 0 where
+    pub reports : ℕ
+    pub begins : due.begin ≡ reports * reporting t
     pub ends : due.begin + reporting t ≡ end
     pub whole : length (earlier ++ due.parts.items) ≡ t.parts
     pub parts : AreParts h w t due.begin (earlier ++ due.parts.items)

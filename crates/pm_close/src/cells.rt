@@ -3,7 +3,7 @@
 //! Rows stand end to end in one vector, oldest first. A row has a cell for each slot, at the slot's number. The run ends
 //! before the tick of the last moment. Room is taken beforehand, so that a tick ends without memory.
 
-ghost use Rattle.std.specs.Prelude.{◌≡◌, ◌≤◌, ◌<◌, ◌+◌, ◌-◌, ◌*◌, ◌^◌, ◌++◌, ℕ, List, [], length, max, drop, replicate, OnOk, vec_capacity};
+ghost use Rattle.std.specs.Prelude.{◌≡◌, ◌≤◌, ◌<◌, ◌+◌, ◌-◌, ◌*◌, ◌^◌, ◌++◌, ℕ, List, [], false, length, max, drop, replicate, OnOk, vec_capacity};
 ghost use Rattle.pm_base.specs.Moment.{tick_of};
 ghost use Rattle.pm_meas.specs.Cell.{cell_of};
 ghost use Rattle.pm_inventory.specs.Inventory.{SlotKey};
@@ -34,10 +34,13 @@ pub struct TickCells {
 impl TickCells {
     ghost use Rattle.pm_close.specs.Cells.{CellsStand, AreOpen, HasRoom, SameCells};
     ghost use Rattle.pm_close.specs.Values.{known_cell};
+    ghost use Rattle.pm_close.specs.DueReports.{ended_by};
 
     /// No row yet.
     pub fn new(alloc: Global, slots: u32) -> TickCells
-        ensures { (keys : List SlotKey) → length keys ≡ slots → CellsStand keys Start result }
+        ensures stands { (keys : List SlotKey) → length keys ≡ slots → CellsStand keys Start result }
+        ensures slots { result.slots ≡ slots }
+        ensures reach { result.first + result.ticks ≡ 0 }
     {
         TickCells {
             slots: slots as usize,
@@ -70,7 +73,10 @@ impl TickCells {
         requires room { HasRoom self.old (tick - max self.old.first from) }
         ensures stands { (slots : List SlotKey) (h : History) (m : ℕ) → IsHistory h → tick_of m ≡ tick → AreOpen slots h row.now
             → CellsStand slots h self.old → CellsStand slots (h ▷ Now m) self.new }
+        ensures slots { self.new.slots ≡ self.old.slots }
         ensures from { self.new.first ≡ max self.old.first from }
+        ensures reach { self.new.first + self.new.ticks ≡ tick }
+        ensures room { vec_capacity self.old.cells ≤ vec_capacity self.new.cells }
     {
         let open_tick = self.first + self.ticks;
         self.forget_before(from);
@@ -89,10 +95,37 @@ impl TickCells {
         requires room { HasRoom self.old (tick - max self.old.first from) }
         ensures stands { (slots : List SlotKey) (h : History) (m : ℕ) → IsHistory h → last_moment h ≤ m → tick_of m ≡ tick
             → CellsStand slots h self.old → CellsStand slots (h ▷ Boot m) self.new }
+        ensures slots { self.new.slots ≡ self.old.slots }
         ensures from { self.new.first ≡ max self.old.first from }
+        ensures reach { self.new.first + self.new.ticks ≡ tick }
+        ensures room { vec_capacity self.old.cells ≤ vec_capacity self.new.cells }
     {
         self.forget_before(from);
         self.add_blank(tick - self.first - self.ticks);
+    }
+
+    /// A request, or a start of the program, ends the open tick, whose cells these are, and those between.
+    pub fn end_with(&mut self, boot: bool, row: &[Cell], from: u64, tick: u64)
+        requires later { self.old.first + self.old.ticks ≤ tick }
+        requires after { boot ≡ false → self.old.first + self.old.ticks < tick }
+        requires in_range { tick < 2 ^ 63 }
+        requires from { from ≤ tick }
+        requires near { tick < max self.old.first from + MOST_TICKS }
+        requires wide { length row.now ≡ self.old.slots }
+        requires small { AreSmall row.now }
+        requires room { HasRoom self.old (tick - max self.old.first from) }
+        ensures stands { (slots : List SlotKey) (h : History) (m : ℕ) → IsHistory h → last_moment h ≤ m → tick_of m ≡ tick
+            → AreOpen slots h row.now → CellsStand slots h self.old → CellsStand slots (h ▷ ended_by boot m) self.new }
+        ensures slots { self.new.slots ≡ self.old.slots }
+        ensures from { self.new.first ≡ max self.old.first from }
+        ensures reach { self.new.first + self.new.ticks ≡ tick }
+        ensures room { vec_capacity self.old.cells ≤ vec_capacity self.new.cells }
+    {
+        if boot {
+            self.end_with_boot(from, tick);
+        } else {
+            self.end_with_now(row, from, tick);
+        }
     }
 
     /// How many slots there are.

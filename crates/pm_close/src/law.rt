@@ -1,9 +1,15 @@
 //! What holds of kept cells and of marks over every history.
+ghost use Rattle.pm_close.specs.Closer.{CloserStays};
 ghost use Rattle.pm_close.specs.Laws.{BootCountsNone, CellsKnown, CellsStay, DueIsFile, GapsHaveNoFiles, MarksStay, MonitorsStay, ReportsStay, SequencesTakeValues};
 
 /// An entry in the tick of the last moment leaves what is kept. A law: the call does nothing.
 pub fn cells_stay()
     ensures { CellsStay }
+{}
+
+/// A request in the tick of the last moment, an event and a subscription leave the closer. A law: the call does nothing.
+pub fn closer_stays()
+    ensures { CloserStays }
 {}
 
 /// An entry leaves the marks of ticks that are over. A law: the call does nothing.

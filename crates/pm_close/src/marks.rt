@@ -25,7 +25,7 @@ pub struct Marks {
 }
 
 impl Marks {
-    ghost use Rattle.pm_close.specs.Marks.{mark_at, AreCounted, NoneCounted, MarksStand, PeriodStands, IsMarked};
+    ghost use Rattle.pm_close.specs.Marks.{mark_at, AreCounted, NoneCounted, NoneMarkedBefore, MarksStand, PeriodStands, IsMarked};
 
     /// The marks of something new, or of something after a gap: no tick of the open period is counted, up to this one.
     pub fn unmarked(granularity: u64, tick: u64) -> Marks
@@ -99,6 +99,7 @@ impl Marks {
         requires in_range { tick < 2 ^ 63 }
         ensures stands { (terms : Side → List ℕ → Terms) (h : History) (w : Making) (from : ℕ) → MarksStand terms h w granularity from self.old
             → NoneCounted terms h w from tick → MarksStand terms h w granularity tick self.new }
+        ensures unmarked { (first : ℕ) → NoneMarkedBefore first self.old → NoneMarkedBefore first self.new }
         ensures reach { self.new.begin + self.new.count ≡ tick }
         ensures within { self.new.count < granularity }
     {

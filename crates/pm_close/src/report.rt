@@ -1,6 +1,6 @@
 //! The open reporting period of a job.
 
-ghost use Rattle.std.specs.Prelude.{◌≡◌, ◌≤◌, ◌<◌, ◌+◌, ◌-◌, ◌*◌, ◌%◌, ◌^◌, false, ◌++◌, ◌∷◌, ◌||◌, ℕ, List, [], IfOk, OnOk, length};
+ghost use Rattle.std.specs.Prelude.{◌≡◌, ◌≤◌, ◌<◌, ◌+◌, ◌-◌, ◌*◌, ◌%◌, ◌^◌, false, ◌++◌, ◌∷◌, ◌||◌, ℕ, List, [], IfOk, OnOk, length, take, vec_capacity};
 ghost use Rattle.pm_inventory.specs.Inventory.{SlotKey};
 ghost use Rattle.pm_history.specs.declared.entry.Side.{Side};
 ghost use Rattle.pm_history.specs.History.{History};
@@ -68,6 +68,8 @@ impl OpenReport {
         ensures reach { IfOk result (λ report. report.marks.begin + report.marks.count ≡ tick) }
         ensures within { IfOk result (λ report. report.marks.count < granularity) }
         ensures none { IfOk result (λ report. (k : ℕ) → mark_at report.marks k ≡ false) }
+        ensures whole { IfOk result (λ report. report.earlier ≡ 0) }
+        ensures unfinished { IfOk result (λ report. report.earlier + length report.parts.items < parts) }
     {
         let within = tick % (parts * granularity);
         let finished = within / granularity;
@@ -85,6 +87,8 @@ impl OpenReport {
         ensures stands { (terms : Side → List ℕ → Terms) (h : History) (w : Making) (t : Terms) (tick : ℕ)
             → ReportStands terms h w t tick [] self.now → ReportStands terms h w t tick self.now.parts.items result }
         ensures marks { result.marks ≡ self.now.marks }
+        ensures earlier { result.earlier ≡ length self.now.parts.items }
+        ensures parts { result.parts.items ≡ [] }
     {
         OpenReport {
             begin: self.begin,
@@ -93,6 +97,52 @@ impl OpenReport {
             counted: self.counted,
             marks: self.marks,
         }
+    }
+
+    /// How many of its finished parts are kept elsewhere.
+    pub fn earlier(&self) -> usize
+        ensures { result ≡ self.now.earlier }
+    {
+        self.earlier as usize
+    }
+
+    /// So many of the finished parts, all where there are fewer.
+    pub fn first_parts(&self, parts: usize) -> &[PartValues]
+        ensures { result.now ≡ take parts self.now.parts.items }
+    {
+        &self.parts[..parts.min(self.parts.len())]
+    }
+
+    /// Takes the room for so many parts.
+    pub fn reserve(&mut self, parts: usize) -> Result<(), AllocError>
+        ensures room { OnOk result (parts ≤ vec_capacity self.new.parts) }
+        ensures parts { self.new.parts.items ≡ self.old.parts.items }
+        ensures begin { self.new.begin ≡ self.old.begin }
+        ensures earlier { self.new.earlier ≡ self.old.earlier }
+        ensures counted { self.new.counted ≡ self.old.counted }
+        ensures marks { self.new.marks ≡ self.old.marks }
+    {
+        let more = parts.saturating_sub(self.parts.len());
+        self.parts.reserve(more)
+    }
+
+    /// Takes what a plan came to: its parts come after the earlier ones. It takes no memory.
+    pub fn enact(&mut self, plan: OpenReport)
+        requires room { plan.earlier + length plan.parts.items ≤ vec_capacity self.old.parts }
+        ensures stands { (terms : Side → List ℕ → Terms) (h : History) (w : Making) (t : Terms) (tick : ℕ)
+            → ReportStands terms h w t tick (take plan.earlier self.old.parts.items) plan → ReportStands terms h w t tick [] self.new }
+        ensures parts { self.new.parts.items ≡ take plan.earlier self.old.parts.items ++ plan.parts.items }
+        ensures marks { self.new.marks ≡ plan.marks }
+        ensures whole { self.new.earlier ≡ 0 }
+        ensures room { vec_capacity self.old.parts ≤ vec_capacity self.new.parts }
+    {
+        let mut plan = plan;
+        self.parts.truncate(plan.earlier as usize);
+        append_parts(&mut self.parts, &mut plan.parts);
+        self.begin = plan.begin;
+        self.earlier = 0;
+        self.counted = plan.counted;
+        self.marks = plan.marks;
     }
 
     /// The marks of the open granularity period.
@@ -129,6 +179,7 @@ impl OpenReport {
         ensures covered { OnOk result (IsCovered kept.now self.new.marks) }
         ensures within { OnOk result (self.new.marks.count < granularity) }
         ensures on { OnOk result (self.new.marks.begin + self.new.marks.count ≡ self.old.marks.begin + self.old.marks.count + 1) }
+        ensures unfinished { 0 < parts → OnOk result (self.new.earlier + length self.new.parts.items < parts) }
     {
         self.end_part(alloc, kept, row, measures, granularity, mark)?;
         Ok(self.take_due(alloc, parts))
@@ -163,6 +214,8 @@ impl OpenReport {
             → IfOk result (EndsTicks terms h w t from tick earlier self.new) }
         ensures within { OnOk result (self.new.marks.count < granularity) }
         ensures on { OnOk result (self.new.marks.begin + self.new.marks.count ≡ tick) }
+        ensures covered { OnOk result (IsCovered kept.now self.new.marks) }
+        ensures unfinished { self.old.earlier + length self.old.parts.items < parts → OnOk result (self.new.earlier + length self.new.parts.items < parts) }
     {
         for _t in self.marks.begin() + self.marks.count() as u64..tick {
             let due = self.end_tick(alloc, kept, row, measures, granularity, parts, false)?;
@@ -227,6 +280,7 @@ impl OpenReport {
             → t.parts ≡ parts → ReportReaches terms h w t tick earlier self.old
             → EndsTick terms h w t tick earlier self.new result }
         ensures marks { self.new.marks ≡ self.old.marks }
+        ensures unfinished { 0 < parts → self.new.earlier + length self.new.parts.items < parts }
     {
         if self.earlier + (self.parts.len() as u64) < parts {
             return None;
@@ -240,5 +294,17 @@ impl OpenReport {
         self.earlier = 0;
         self.counted = false;
         Some(due)
+    }
+}
+
+// Moves parts to the end of those for which there is room.
+fn append_parts(parts: &mut Vec<PartValues>, more: &mut Vec<PartValues>)
+    requires { length parts.old.items + length more.old.items ≤ vec_capacity parts.old }
+    ensures appended { parts.new.items ≡ parts.old.items ++ more.old.items }
+    ensures room { vec_capacity parts.old ≤ vec_capacity parts.new }
+{
+    match parts.append(more) {
+        Ok(()) => {}
+        Err(_) => unreachable!(),
     }
 }

@@ -15,3 +15,4 @@ pub mod BackLemmas
 pub mod PermittedLemmas
 pub mod PlacesWithinLemmas
 pub mod MadeLemmas
+pub mod KeepLemmas

@@ -7,6 +7,7 @@ use Rattle.std.specs.Str.{bytes_eq, IsUtf8}
 use Rattle.std.specs.List.{list_all}
 use Rattle.std.proofs.lemmas.Bool.Decides.{nat_tests}
 use Rattle.std.proofs.lemmas.List.Sums.{list_all-from_AllPass}
+use Rattle.std.proofs.lemmas.Slice.Eq.{bytes_eq-Decides}
 use Rattle.std.proofs.lemmas.Str.{IsUtf8-append, IsUtf8-nil, IsUtf8-from_ascii}
 use Rattle.pm_base.specs.Names.{is_id_char}
 use Rattle.pm_form.specs.Names.{job_id}
@@ -73,3 +74,14 @@ pub id_at : (side : Side) (items : List Standing) (place : ℕ) (d : Standing) �
 id_at side [] place d all lt = absurd (omega arith)
 id_at side (s ∷ ss) zero d all lt = all.0.0
 id_at side (s ∷ ss) (suc place) d all lt = id_at side ss place d all.1 (omega (arith, lt))
+
+-- What exists has an id of the form of ids.
+pub formed : (side : Side) (items : List Standing) (id : List ℕ) → AreItems side items → list_any (bytes_eq id) (ids items) ≡ true
+    → job_id id ≡ true
+formed side [] id all any = cc
+formed side (s ∷ ss) id all any = by (bytes_eq id s.id) refl any (λ more. formed side ss id all.1 more)
+  where
+    by : (b : Bool) → bytes_eq id s.id ≡ b → (b || list_any (bytes_eq id) (ids ss)) ≡ true
+        → (list_any (bytes_eq id) (ids ss) ≡ true → job_id id ≡ true) → job_id id ≡ true
+    by true same any rest = ap job_id ((bytes_eq-Decides id s.id).0 same) ∙ all.0.0
+    by false same any rest = rest any

@@ -28,6 +28,25 @@ pub record Does (side : Side) (id : List ℕ) (change : Change) (e : Entry) : Ty
   pub here : change_of side id e ≡ Some change
   pub elsewhere : (other : List ℕ) → bytes_eq id other ≡ false → change_of side other e ≡ None
 
+-- What an item keeps in another state.
+pub moved-keeps : (inventory : InventoryState) (side : Side) (s : Standing) (moment : ℕ) (unlocked : Bool) → Keeps inventory side s
+    → Keeps inventory side (with_state moment unlocked s)
+moved-keeps inventory side s moment unlocked keeps = record {
+  named = keeps.named;
+  asked = keeps.asked;
+  says = keeps.says;
+  permitted = keeps.permitted;
+  fits = record {
+    granularity = keeps.fits.granularity;
+    period = keeps.fits.period;
+    reporting = keeps.fits.reporting;
+    metrics = keeps.fits.metrics;
+    objects = keeps.fits.objects;
+    limits = keeps.fits.limits;
+    load = keeps.fits.load;
+  };
+}
+
 module _ (inventory : InventoryState) (side : Side) (h : History) (e : Entry) where
   -- ---- items that the entry doesn't change
 
@@ -56,26 +75,11 @@ module _ (inventory : InventoryState) (side : Side) (h : History) (e : Entry) wh
   told-moved (Some d) s moment false is =
       ap (λ (t : Told). Some (record { body = t.body; unlocked = false; changed = moment; armed = t.armed })) (same_Some (told d) (told_of s) is)
 
-  moved-keeps : (s : Standing) (moment : ℕ) (unlocked : Bool) → Keeps inventory side s → Keeps inventory side (with_state moment unlocked s)
-  moved-keeps s moment unlocked keeps = record {
-    asked = keeps.asked;
-    says = keeps.says;
-    fits = record {
-      granularity = keeps.fits.granularity;
-      period = keeps.fits.period;
-      reporting = keeps.fits.reporting;
-      metrics = keeps.fits.metrics;
-      objects = keeps.fits.objects;
-      limits = keeps.fits.limits;
-      load = keeps.fits.load;
-    };
-  }
-
   pub moves : (s : Standing) (unlocked : Bool) → change_of side s.id e ≡ Some (Moved unlocked) → StandsFor inventory side h s
       → StandsFor inventory side (h ▷ e) (with_state (moment_of e) unlocked s)
   moves s unlocked does is = record {
     told = rw does (told-moved (history.standing_after (terms_of inventory) side h s.id) s (moment_of e) unlocked is.told);
-    keeps = moved-keeps s (moment_of e) unlocked is.keeps;
+    keeps = moved-keeps inventory side s (moment_of e) unlocked is.keeps;
   }
 
   pub all_move : (items : List Standing) (place : ℕ) (unlocked : Bool) → AreApart (ids items) → place < length items

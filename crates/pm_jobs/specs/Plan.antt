@@ -19,7 +19,7 @@ use Rattle.pm_jobs.specs.declared.ask.Ask.{Ask}
 use Rattle.pm_jobs.specs.declared.ask.Ask.TheVariants as ask
 use Rattle.pm_jobs.specs.Asked.{Asked, asked_of}
 use Rattle.pm_jobs.specs.Reading.{state_body}
-use Rattle.pm_jobs.specs.Rules.{MOST_STANDING, MOST_LOAD, stands}
+use Rattle.pm_jobs.specs.Rules.{MOST_STANDING, MOST_LOAD, stands, standing_at}
 use Rattle.pm_jobs.specs.State.{JobsState, on, with_on, ids_on, load_on, IsItem}
 use Rattle.pm_jobs.specs.Stands.{Fits, Keeps}
 
@@ -50,14 +50,15 @@ Creates inventory jobs moment side id asked plan = ⊥
 abbrev pub IsAt : JobsState → Side → List ℕ → ℕ → Type 0
 IsAt jobs side id place = slice_get (ids_on side jobs) place ≡ Some id
 
-abbrev pub state_at : JobsState → Side → ℕ → Option Bool
-state_at jobs side place = option_map (λ (s : Standing). s.unlocked) (slice_get (on side jobs) place)
+-- The state of what exists under an id.
+abbrev pub state_under : JobsState → Side → List ℕ → Option Bool
+state_under jobs side id = option_map (λ (s : Standing). s.unlocked) (standing_at (on side jobs) id)
 
 -- The plan sets the state that is asked for; or nothing, where it stands.
 abbrev pub Moves : JobsState → ℕ → Side → List ℕ → Option Bool → Plan → Type 0
 Moves jobs moment side id (Some unlocked) (Move s place to at) =
-    (s ≡ side) × (to ≡ unlocked) × (at ≡ moment) × IsAt jobs side id place × (state_at jobs side place ≡ Some (not unlocked))
-Moves jobs moment side id (Some unlocked) Already = (place : ℕ) × IsAt jobs side id place × (state_at jobs side place ≡ Some unlocked)
+    (s ≡ side) × (to ≡ unlocked) × (at ≡ moment) × IsAt jobs side id place × (state_under jobs side id ≡ Some (not unlocked))
+Moves jobs moment side id (Some unlocked) Already = state_under jobs side id ≡ Some unlocked
 Moves jobs moment side id state plan = ⊥
 
 -- The plan deletes what stands under the id.

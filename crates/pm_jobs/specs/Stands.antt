@@ -1,5 +1,5 @@
 -- Which jobs and monitors stand for a history. Nothing speaks of the places of makings, which differ in histories of the same items.
-use Rattle.std.specs.Prelude.{ℕ, ◌≡◌, Bool, true, List, map, Some}
+use Rattle.std.specs.Prelude.{ℕ, ◌≡◌, Bool, true, List, map, Some, None}
 use Rattle.std.specs.List.{AllByRecursion}
 use Rattle.std.specs.Option.{option_map}
 use Rattle.pm_history.specs.declared.entry.Side.{Side}
@@ -7,12 +7,13 @@ use Rattle.pm_history.specs.declared.entry.Side.TheVariants.{Job, Monitor}
 use Rattle.pm_history.specs.History.{History}
 use Rattle.pm_history.specs.Standing as history
 use Rattle.pm_inventory.specs.Inventory.{InventoryState}
+use Rattle.pm_form.specs.Names.{job_id}
 use Rattle.pm_asked.specs.Body.{Threshold}
 use Rattle.pm_asked.specs.Asked.{Numbered, metrics_asked, keeps_up, keeps_down, terms_of}
 use Rattle.pm_jobs.specs.declared.standing.Standing.{Standing}
 use Rattle.pm_jobs.specs.declared.standing.Limit.{Limit}
 use Rattle.pm_jobs.specs.Asked.{Asked, asked_of, metrics_of, objects_of}
-use Rattle.pm_jobs.specs.Rules.{is_period, load_asked}
+use Rattle.pm_jobs.specs.Rules.{is_period, load_asked, body_refusal}
 use Rattle.pm_jobs.specs.State.{JobsState, ids}
 
 -- ---- what an item keeps of what its body asks for
@@ -50,11 +51,18 @@ pub record Fits (inventory : InventoryState) (asked : Asked) (s : Standing) : Ty
   pub limits : map bound_of s.limits.items ≡ map (bound_asked inventory) asked.thresholds
   pub load : s.load ≡ load_asked inventory asked
 
--- What an item keeps is what its body asks for.
+-- What an item keeps is what its body asks for, which breaks no rule by itself; and its id is one.
 pub record Keeps (inventory : InventoryState) (side : Side) (s : Standing) : Type 0 where
+  pub named : job_id s.id ≡ true
   pub asked : Asked
   pub says : asked_of side s.body ≡ Some asked
+  pub permitted : body_refusal inventory side asked ≡ None
   pub fits : Fits inventory asked s
+
+-- All items keep what their bodies ask for.
+pub record AllKeep (inventory : InventoryState) (jobs : JobsState) : Type 0 where
+  pub of_jobs : AllByRecursion (Keeps inventory Job) jobs.jobs
+  pub of_monitors : AllByRecursion (Keeps inventory Monitor) jobs.monitors
 
 -- ---- histories
 

@@ -6,7 +6,7 @@ ghost use Rattle.pm_inventory.specs.Inventory.{InventoryState};
 ghost use Rattle.pm_jobs.specs.Plan.{Answers, IsPlan, Suits, HasRoom, IsOver, with_state, moved_at, jobs_after, outcome_of, entries_of};
 ghost use Rattle.pm_jobs.specs.Rules.{refusal};
 ghost use Rattle.pm_jobs.specs.State.{on, with_on, load_of as load, load_on, AreItems};
-ghost use Rattle.pm_jobs.specs.Stands.{Stands};
+ghost use Rattle.pm_jobs.specs.Stands.{AllKeep, Stands};
 
 use crate::{Ask, JobError, Outcome, Plan, Standing};
 use arrayvec::ArrayVec;
@@ -116,6 +116,9 @@ impl Jobs {
 
         // Jobs that stand for a history stand for it with the one entry that the plan is, if any.
         ensures stands { (inventory : InventoryState) (h : History) → Stands inventory self.old h → IsOver inventory plan → Stands inventory self.new (grown h (entries_of self.old plan)) }
+
+        // What is kept is what bodies ask for, whatever the history.
+        ensures keep { (inventory : InventoryState) → AllKeep inventory self.old → IsOver inventory plan → AllKeep inventory self.new }
     {
         let _ = &self.alloc;
         match plan {

@@ -4,7 +4,7 @@ use Rattle.pm_jobs.specs.declared.standing.Standing.{Standing}
 use Rattle.pm_jobs.proofs.ShownLemmas.{id_at}
 use Rattle.pm_jobs.proofs.showing.shown_at.Goals as goal
 
-pub item_shown-requires : goal.item_shown-requires
-item_shown-requires c =
+pub item_shown_in-requires : goal.item_shown_in-requires
+item_shown_in-requires c =
     ap (λ (s : Standing). job_id s.id) c.index-items-place.is
     ∙ id_at c.args.side c.args.items.now c.in-Some.place c.index-items-place.result c.requires c.in-Some.ensures.within

@@ -1,6 +1,9 @@
-use Rattle.std.proofs.Common.{ℕ, suc, sym, ap, ◌∙◌, ◌≤◌, ◌<◌, ◌+◌, ◌*◌, ◌-◌, ◌/◌, ◌%◌, arith, suc-mul}
+use Rattle.std.proofs.Common.{◌≡◌, ℕ, suc, false, refl, Option, Some, None, IsSome, MatchOption, inl, inr, sym, ap, ◌∙◌, ◌≤◌, ◌<◌, ◌+◌, ◌*◌, ◌-◌, ◌/◌, ◌%◌, arith, suc-mul}
 use Rattle.std.proofs.lemmas.Nat.{mul-le}
 use Rattle.std.proofs.Math.Nat.{le-div_iff_mul-le, mod-eq-sub-div-mul}
+use Rattle.std.proofs.lemmas.Bool.{cases_lt}
+use Rattle.pm_close.specs.declared.marks.Marks.{Marks}
+use Rattle.pm_close.specs.Marks.{mark_at, IsMarked, NoneMarkedBefore}
 use Rattle.pm_close.proofs.marks.Marks.end_uncounted.Goals as goal
 
 -- a multiple that ends before a number is at most the last multiple before it
@@ -12,6 +15,20 @@ last-multiple periods granularity tick some le =
     let product = mul-le (suc periods) granularity (tick / granularity) granularity few (omega arith) in
     let rest = mod-eq-sub-div-mul tick granularity in
     omega (arith, multiple, product, rest, le)
+
+-- one more tick that isn't marked
+unmarked-next : (first : ℕ) (old new : Marks) (period : Option Marks) → MatchOption period (IsMarked old false new) (IsMarked old false)
+    → (IsSome period → new.count ≡ 0) → NoneMarkedBefore first old → NoneMarkedBefore first new
+unmarked-next first old new None marked next before k lt less =
+    let count = marked.count in
+    let begin = marked.begin in
+    elim (cases_lt k old.count) [
+      | inl earlier ↦ marked.others k earlier ∙ before k earlier (omega (arith, less, begin))
+      | inr later ↦ let at : old.count ≡ k = omega (arith, later, lt, count) in ap (mark_at new) (sym at) ∙ marked.last
+    ]
+unmarked-next first old new (Some period) marked next before k lt less =
+    let none = next refl in
+    absurd (omega (arith, none, lt))
 
 pub returns-then-self-granularity-clause-stands : goal.returns-then-self-granularity-clause-stands
 returns-then-self-granularity-clause-stands c =
@@ -42,6 +59,9 @@ loop-t-preserved c =
       reach = c.end_tick.ensures.on ∙ ap (λ n. n + 1) reach;
       within = c.end_tick.ensures.within;
       from = omega (arith, before);
+      unmarked = λ first before.
+          unmarked-next first (c.loop-t.self) c.end_tick.new.self c.end_tick.result c.end_tick.ensures.marks
+          (λ some. (c.end_tick.ensures.next some).1) (was.unmarked first before);
       stand = λ terms h w from stand none.
           let first = stand.reach in
           c.end_tick.ensures.stands terms h w c.loop-t._t (was.stand terms h w from stand none)

@@ -68,6 +68,7 @@ loop-t-preserved c =
       within = c.in_ok-due.ensures.within;
       from = omega (arith, before);
       covered = c.in_ok-due.ensures.covered;
+      unfinished = λ few. c.in_ok-due.ensures.unfinished c.requires.some_parts;
       stand = λ terms slots h w t from earlier knows reads granularity parts stand none.
           let first = stand.marks.reach in
           let later : from ≤ tick = omega (arith, first, before) in

@@ -1,4 +1,4 @@
-use Rattle.std.proofs.Common.{◌≡◌, ◌≤◌, ◌<◌, ◌+◌, ℕ, List}
+use Rattle.std.proofs.Common.{◌≡◌, ◌≤◌, ◌<◌, ◌+◌, ℕ, List, length}
 use Rattle.pm_inventory.specs.Inventory.{SlotKey}
 use Rattle.pm_history.specs.declared.entry.Side.{Side}
 use Rattle.pm_history.specs.History.{History}
@@ -17,6 +17,8 @@ invariant-loop-t l = record {
   within : l.self.marks.count < l.granularity;
   from : l.fn.self.marks.begin + l.fn.self.marks.count ≤ l._t;
   covered : IsCovered l.kept l.self.marks;
+  unfinished : l.fn.self.earlier + length l.fn.self.parts.items < l.parts
+      → l.self.earlier + length l.self.parts.items < l.parts;
   stand : (terms : Side → List ℕ → Terms) (slots : List SlotKey) (h : History) (w : Making) (t : Terms) (from : ℕ)
       (earlier : List PartValues)
       → KnowsCells slots h l.kept l.row → ReadEach slots l.measures (quantities_of t.measured)

@@ -35,6 +35,8 @@ returns-clause-due c =
       next-stands terms h w t tick earlier c.args.self.now _ whole c.begin-self.ensures refl
           (ap (λ v. v.items) c.replace.ensures.after ∙ c.new.ensures.items) refl refl reaches,
       record {
+        reports = reaches.reports;
+        begins = reaches.begins;
         ends = due.0;
         whole = ap (λ ps. length (earlier ++ ps)) same ∙ whole;
         parts = subst (λ ps. AreParts terms h w t c.args.self.now.begin (earlier ++ ps)) (sym same) reaches.parts;

@@ -2,6 +2,7 @@ use Rattle.pm_history.specs.declared.entry.Side.{Side}
 use Rattle.pm_history.specs.declared.entry.Side.TheVariants.{Job, Monitor}
 use Rattle.pm_jobs.specs.State.{JobsState, ids_on, AreApart, IsSide}
 use Rattle.pm_jobs.proofs.EnactLemmas.{makes, moves, deletes}
+use Rattle.pm_jobs.proofs.KeepLemmas.{keep_after}
 use Rattle.pm_jobs.proofs.jobs.Jobs.enact.Goals as goal
 
 apart_on : (state : JobsState) (side : Side) → IsSide Job state.jobs → IsSide Monitor state.monitors → AreApart (ids_on side state)
@@ -31,3 +32,7 @@ returns-in-Delete-clause-stands c =
     λ inventory h is over.
     rw (c.remove.ensures, c.in-Delete.is)
     (deletes inventory c.args.self.now h side c.in-Delete.place c.in-Delete.moment apart (rw c.in-Delete.is at c.requires) is)
+
+pub returns-in-Move-clause-keep : goal.returns-in-Move-clause-keep
+returns-in-Move-clause-keep c = λ inventory all over.
+    rw (c.set_state.ensures) (rw c.in-Move.is at (keep_after inventory c.args.self.now c.args.plan all over))

@@ -9,7 +9,13 @@ returns-clause-over c =
     let asked : Asked = wanted_content c.args.wanted in
     let made : IsMade c.args.inventory.now c.args.moment c.args.id.now asked c.in_ok-standing.standing = c.in_ok-standing.ensures.1 in
     record {
-      keeps = record { asked = asked; says = rw made.body c.requires.back; fits = made.fits };
+      keeps = record {
+        named = rw made.named c.requires.named;
+        asked = asked;
+        says = rw made.body c.requires.back;
+        permitted = c.in_ok-standing.ensures.0;
+        fits = made.fits;
+      };
       unlocked = made.unlocked;
       armed = made.armed ∙ sym made.changed;
     }
