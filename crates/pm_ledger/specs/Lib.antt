@@ -1,0 +1,4 @@
+pub mod Stored
+pub mod Between
+pub mod Ledger
+pub mod Refusals
