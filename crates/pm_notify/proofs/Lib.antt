@@ -1,0 +1,9 @@
+pub mod ListLemmas
+pub mod ToldLemmas
+pub mod MetricLemmas
+pub mod EndLemmas
+pub mod TellableLemmas
+pub mod AddedLemmas
+pub mod KeptLemmas
+pub mod NumberLemmas
+pub mod OneLemmas

@@ -1,0 +1,16 @@
+pub mod BoolLemmas
+pub mod ElementLemmas
+pub mod GroupLemmas
+pub mod PermittedLemmas
+pub mod AskedLemmas
+pub mod RiseLemmas
+pub mod ShapeLemmas
+pub mod StepLemmas
+pub mod KeptLemmas
+pub mod OrderLemmas
+pub mod RangeLemmas
+pub mod ServeLemmas
+pub mod DueLemmas
+pub mod ListLemmas
+pub mod FileWholeLemmas
+pub mod DistinctLemmas

@@ -1,0 +1,9 @@
+pub mod Files
+pub mod Measured
+pub mod Shape
+pub mod Whole
+pub mod Kept
+pub mod Listing
+pub mod Range
+pub mod Laws
+pub mod Due
