@@ -1,0 +1,6 @@
+pub mod Bears
+pub mod Adding
+pub mod Wish
+pub mod Turn
+pub mod Giving
+pub mod Refusals

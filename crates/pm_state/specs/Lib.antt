@@ -1,0 +1,11 @@
+pub mod Status
+pub mod Given
+pub mod Changes
+pub mod ChangeItem
+pub mod Planned
+pub mod Opening
+pub mod Filled
+pub mod Closing
+pub mod FilesGiven
+pub mod Stands
+pub mod Step
