@@ -1,0 +1,11 @@
+mod MapLemmas
+mod ItemLemmas
+mod PlaceLemmas
+mod RowLemmas
+mod NamesLemmas
+mod NameLength
+mod CollectorLemmas
+mod FileLemmas
+mod ReadLemmas
+mod RefusalLemmas
+mod LoadLemmas

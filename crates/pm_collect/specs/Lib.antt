@@ -1,0 +1,10 @@
+pub mod Call
+pub mod Told
+pub mod Maps
+pub mod Names
+pub mod Stored
+pub mod Places
+pub mod Errors
+pub mod Collector
+pub mod Refusals
+pub mod Opening
