@@ -1,1 +1,5 @@
-pub mod WordsLemmas
+pub mod AskingLemmas
+pub mod SessionLemmas
+pub mod LawLemmas
+pub mod StreamLemmas
+pub mod RunLemmas

@@ -2,3 +2,8 @@ pub mod Exit
 pub mod Words
 pub mod StatusText
 pub mod Ends
+pub mod SessionTurn
+pub mod Session
+pub mod SessionSteps
+pub mod SessionLaw
+pub mod Run

@@ -7,13 +7,14 @@ use pm_base::Code;
 /// How a run of the program ends.
 #[derive(Clone, Copy, Debug, PartialEq, Eq)]
 pub enum Status {
-    /// The input was read to its end.
+    /// The input was read to its end, or to a request that closes.
     Done,
     /// The words of the command line are none that the program knows.
     Usage,
-    /// A line of the input is refused, or the input is too long.
+    /// A line of the input or the framing of a request is refused, or the input ends inside a request (`H9`) or is too long (`Z1`).
     BadInput {
-        /// The number of the line, from 1, or for `Z1` the most bytes that are read.
+        /// The number of the line, from 1; of a request the offset of its first byte after the inventory, in bytes; for `Z1` the most
+        /// bytes that are read.
         place: u64,
         /// By which rule.
         code: Code,
@@ -22,6 +23,22 @@ pub enum Status {
     ReadFault,
     /// The output failed.
     WriteFault,
+    /// The disk failed.
+    StoreFault,
+    /// The store's area has over 9 bytes, and is too long or doesn't begin with the mark.
+    Foreign,
+    /// The store's item whose gate is at this offset can't be taken.
+    Garbled {
+        /// In bytes.
+        offset: u64,
+    },
+    /// An item would make the store longer than may be.
+    StoreFull {
+        /// Its length, in bytes.
+        length: u64,
+        /// The length that it would need.
+        need: u64,
+    },
     /// A line of the inventory is refused or missing.
     BadInventory {
         /// The number of the line, from 1.
@@ -44,6 +61,9 @@ impl Status {
             Status::BadInput { .. } => 2,
             Status::ReadFault => 3,
             Status::WriteFault => 4,
+            Status::StoreFault => 5,
+            Status::Foreign | Status::Garbled { .. } => 6,
+            Status::StoreFull { .. } => 8,
             Status::BadInventory { .. } => 11,
             Status::Memory => 12,
         }

@@ -19,6 +19,12 @@ impl fmt::Display for Status {
             }
             Status::ReadFault => write!(f, "status {exit} ReadFault"),
             Status::WriteFault => write!(f, "status {exit} WriteFault"),
+            Status::StoreFault => write!(f, "status {exit} StoreFault"),
+            Status::Foreign => write!(f, "status {exit} Foreign"),
+            Status::Garbled { offset } => write!(f, "status {exit} Garbled at {offset}"),
+            Status::StoreFull { length, need } => {
+                write!(f, "status {exit} StoreFull {length} {need}")
+            }
             Status::BadInventory { line, code } => {
                 let code = code.name();
                 write!(f, "status {exit} BadInventory at {line} {code}")
