@@ -1,5 +1,5 @@
-//! What follows from a history by the definitions: reads an inventory and entries, and prints the notices, or, where the first word is
-//! `items`, the stored items. No part of the product.
+//! What follows from a history by the definitions: reads an inventory and entries, and prints the notices. Where the first word is
+//! `closed` they are those that the crates of the product give; where it is `items`, the stored items are printed. No part of the product.
 //!
 //! After the inventory, up to its line `end`, stands one entry a line:
 //!
@@ -14,11 +14,17 @@
 
 mod asking;
 mod body;
+mod closing;
+#[cfg(test)]
+mod generated;
 mod inventory;
 mod items;
 mod line;
+#[cfg(test)]
+mod rows;
 mod run;
 mod stop;
+mod telling;
 #[cfg(test)]
 mod tests;
 mod words;
@@ -35,6 +41,7 @@ fn asked(rt: &HostRuntime) -> Result<Asked, Stop> {
         return Err(Stop::Fault);
     };
     match words.nth(1) {
+        Some(word) if word.as_str() == "closed" => Ok(Asked::Closed),
         Some(word) if word.as_str() == "items" => Ok(Asked::Items),
         _ => Ok(Asked::Notices),
     }

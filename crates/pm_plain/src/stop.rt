@@ -11,6 +11,8 @@ pub enum Stop {
     Fault,
     /// Memory is wanting.
     Memory,
+    /// What the crates of the product gave is not what it must be.
+    Broken,
     /// An item has no bytes, or is of an entry that no line makes.
     NoItem,
 }

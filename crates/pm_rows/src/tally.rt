@@ -2,6 +2,7 @@
 ghost use Rattle.std.specs.Prelude.{List, [], ◌≤◌};
 
 use pm_base::Code;
+use pm_disk::MemDisk;
 use pm_outside::{Failed, Feed, Line, MemSink, MemSource, Source};
 use pm_tally::{PlainTally, plain_tally};
 use pm_top::{Status, pmd};
@@ -24,7 +25,7 @@ pub fn spelled(alloc: Global, short: &str) -> Result<String, AllocError> {
     named.replace(alloc, "Att", ATTEMPTS)
 }
 
-fn words(alloc: Global, from: &[&str]) -> Result<Vec<String>, AllocError> {
+pub fn words(alloc: Global, from: &[&str]) -> Result<Vec<String>, AllocError> {
     let mut words = Vec::new(alloc);
     for word in from {
         words.push(String::from_str(alloc, word)?)?;
@@ -93,9 +94,10 @@ fn the_rows_are_tallied_as_by_hand(rt: HostRuntime) -> Result<(), Fail> {
         let want = spelled(alloc, output)?;
         let mut source = MemSource::new(alloc, given.as_bytes(), &[])?;
         let mut sink = MemSink::new(alloc, ROOM, &[])?;
+        let mut disk = MemDisk::new(alloc, 0, &[])?;
         let tally = words(alloc, &["tally"])?;
         assert_eq!(rt;
-            pmd(alloc, &tally, &mut source, &mut sink),
+            pmd(alloc, &tally, &mut source, &mut sink, &mut disk),
             status,
             "at {input:?}"
         );
@@ -105,14 +107,29 @@ fn the_rows_are_tallied_as_by_hand(rt: HostRuntime) -> Result<(), Fail> {
 }
 
 #[test]
-fn other_words_than_tally_alone_are_refused(rt: HostRuntime) -> Result<(), Fail> {
+fn other_words_than_those_of_a_command_are_refused(rt: HostRuntime) -> Result<(), Fail> {
     let alloc = rt.alloc();
-    let rows: [&[&str]; 3] = [&[], &["tally", "x"], &["x"]];
+    let rows: [&[&str]; 10] = [
+        &[],
+        &["tally", "x"],
+        &["x"],
+        &["run"],
+        &["run", "--boot"],
+        &["run", "--boot", "x"],
+        &["run", "--boot=253402300800"],
+        &["run", "--boot=1", "--boot=1"],
+        &["run", "--workers=17", "--boot=1"],
+        &["run", "--", "--boot=1"],
+    ];
     for row in rows {
         let mut source = MemSource::new(alloc, b"end\n", &[])?;
         let mut sink = MemSink::new(alloc, ROOM, &[])?;
+        let mut disk = MemDisk::new(alloc, 0, &[])?;
         let other = words(alloc, row)?;
-        assert_eq!(rt; pmd(alloc, &other, &mut source, &mut sink), Status::Usage);
+        assert_eq!(rt;
+            pmd(alloc, &other, &mut source, &mut sink, &mut disk),
+            Status::Usage
+        );
     }
     Ok(())
 }
@@ -130,8 +147,9 @@ pub fn compare(
     for most in [1, 7, input.len() + 1] {
         let mut source = Slow { left: input, most };
         let mut sink = MemSink::new(alloc, ROOM, &[])?;
+        let mut disk = MemDisk::new(alloc, 0, &[])?;
         assert_eq!(rt;
-            pmd(alloc, &tally, &mut source, &mut sink),
+            pmd(alloc, &tally, &mut source, &mut sink, &mut disk),
             Status::from(plain.end),
             "row {at} by {most}"
         );
@@ -202,8 +220,9 @@ fn faults_end_a_tally_after_the_lines_of_ended_ticks(rt: HostRuntime) -> Result<
 
     let mut source = MemSource::new(alloc, input.as_bytes(), &[2])?;
     let mut sink = MemSink::new(alloc, ROOM, &[])?;
+    let mut disk = MemDisk::new(alloc, 0, &[])?;
     assert_eq!(rt;
-        pmd(alloc, &tally, &mut source, &mut sink),
+        pmd(alloc, &tally, &mut source, &mut sink, &mut disk),
         Status::ReadFault
     );
     assert_eq!(rt; sink.written(), written.as_bytes());
@@ -211,8 +230,9 @@ fn faults_end_a_tally_after_the_lines_of_ended_ticks(rt: HostRuntime) -> Result<
 
     let mut source = MemSource::new(alloc, input.as_bytes(), &[])?;
     let mut sink = MemSink::new(alloc, ROOM, &[1])?;
+    let mut disk = MemDisk::new(alloc, 0, &[])?;
     assert_eq!(rt;
-        pmd(alloc, &tally, &mut source, &mut sink),
+        pmd(alloc, &tally, &mut source, &mut sink, &mut disk),
         Status::WriteFault
     );
     assert_eq!(rt; sink.written(), b"".as_slice());
