@@ -35,7 +35,10 @@ use Rattle.pm_batch.specs.Reading.{Refusal}
 use Rattle.pm_events.specs.declared.hit.Hit.{Hit}
 use Rattle.pm_engine.specs.declared.engine.Engine.{Engine}
 use Rattle.pm_engine.specs.Adding.{AddsStored}
-use Rattle.pm_engine.specs.Bears.{Bears}
+use Rattle.pm_notice.specs.Planned.{subscriptions_of}
+use Rattle.pm_state.specs.SubsGiven.{Leaves}
+use Rattle.pm_state.proofs.SubsLemmas.{subs-opening}
+use Rattle.pm_engine.specs.Bears.{Bears, cursors_in}
 use Rattle.pm_engine.specs.Giving.{GivesBy, Meanwhile, Reaches}
 use Rattle.pm_engine.specs.Turn.{reached}
 use Rattle.pm_engine.proofs.BetweenLemmas.{itself, kept-begins, widened}
@@ -81,22 +84,28 @@ rests-one inventory ledger told h e ready of history =
 
 -- ---- what is given
 
-pub gives-map : (P Q : Given → Type 0) (IsTold : Type 0) (engine : Engine) (told : Told) (g : History) (o : Option Reply)
-    → ((given : Given) → P given → Q given) → GivesBy P IsTold engine told g o → GivesBy Q IsTold engine told g o
-gives-map P Q IsTold engine told g None to gives = gives
-gives-map P Q IsTold engine told g (Some reply) to gives = record { given = gives.given; is = to gives.given gives.is; reply_is = gives.reply_is; bears = gives.bears }
+pub gives-map : (P Q : Given → List ℕ → Type 0) (IsTold : Type 0) (engine : Engine) (told : Told) (g : History) (cursors : List ℕ) (o : Option Reply)
+    → ((given : Given) (next : List ℕ) → P given next → Q given next) → GivesBy P IsTold engine told g cursors o → GivesBy Q IsTold engine told g cursors o
+gives-map P Q IsTold engine told g cursors None to gives = gives
+gives-map P Q IsTold engine told g cursors (Some reply) to gives = record {
+  given = gives.given;
+  next = gives.next;
+  is = to gives.given gives.next gives.is;
+  reply_is = gives.reply_is;
+  bears = gives.bears;
+}
 
-pub meanwhile-map : (P Q : Given → Type 0) (inventory : InventoryState) (old new : Told) (g : History)
-    → ((given : Given) → P given → Q given) → Meanwhile P inventory old new g → Meanwhile Q inventory old new g
+pub meanwhile-map : (P Q : Given → List ℕ → Type 0) (inventory : InventoryState) (old new : Told) (g : History)
+    → ((given : Given) (next : List ℕ) → P given next → Q given next) → Meanwhile P inventory old new g → Meanwhile Q inventory old new g
 meanwhile-map P Q inventory old new g to during = record {
   most = during.most;
-  is = elim during.is [ inl same ↦ inl same | inr more ↦ inr (more.0, to more.0 more.1, more.2) ];
+  is = elim during.is [ inl same ↦ inl same | inr more ↦ inr (more.0, more.1, to more.0 more.1 more.2, more.3) ];
   begins = during.begins;
   moments = during.moments;
 }
 
 -- Nothing was stored.
-pub meanwhile-rests : (P : Given → Type 0) (inventory : InventoryState) (ledger : Ledger) (told : Told) (g : History) → IsReady ledger
+pub meanwhile-rests : (P : Given → List ℕ → Type 0) (inventory : InventoryState) (ledger : Ledger) (told : Told) (g : History) → IsReady ledger
     → IsLedgerOf inventory ledger told.now g → IsHistory g → Meanwhile P inventory told told g
 meanwhile-rests P inventory ledger told g ready of history = record {
   most = g;
@@ -111,28 +120,30 @@ pub over-jobs : (inventory : InventoryState) (g : History) (f : JobsState → �
 over-jobs inventory g f jobs last stands is given given-is = (jobs, stands, given-is ∙ ap (f jobs) is)
 
 -- A look.
-pub look-gives : (P : Given → Type 0) (IsTold : Type 0) (engine : Engine) (told : Told) (g : History) (given : Given) (reply : Reply) (o : Option Reply)
-    → P given → IsLook given reply → MatchOption o (reply.status ≡ 503) (λ other. (other ≡ reply) × (reply.status ≢ 503)) → Bears IsTold engine told g
-    → GivesBy P IsTold engine told g o
-look-gives P IsTold engine told g given reply None is look match bears = bears
-look-gives P IsTold engine told g given reply (Some other) is look match bears = elim look [
+pub look-gives : (P : Given → Type 0) (IsTold : Type 0) (engine : Engine) (told : Told) (g : History) (cursors : List ℕ) (given : Given)
+    (reply : Reply) (o : Option Reply) → P given → IsLook given reply
+    → MatchOption o (reply.status ≡ 503) (λ other. (other ≡ reply) × (reply.status ≢ 503)) → Bears IsTold engine told g cursors
+    → GivesBy (λ x next. Leaves cursors next (P x)) IsTold engine told g cursors o
+look-gives P IsTold engine told g cursors given reply None is look match bears = bears
+look-gives P IsTold engine told g cursors given reply (Some other) is look match bears = elim look [
   | inl none ↦ absurd (match.1 (ap (λ (r : Reply). r.status) none))
   | inr same ↦ record {
     given = given;
-    is = is;
+    next = cursors;
+    is = (is, refl);
     reply_is = match.0 ∙ sym (ap (λ (x : Given). x.reply) same);
-    bears = subst (λ es. Bears IsTold engine told (grown g es)) (sym (ap (λ (x : Given). x.entries) same)) bears;
+    bears = subst (λ es. Bears IsTold engine told (grown g es) cursors) (sym (ap (λ (x : Given). x.entries) same)) bears;
   }
 ]
 
 -- A look at files.
-pub shows-gives : (P : Given → Type 0) (IsTold : Type 0) (engine : Engine) (told : Told) (g : History) (reply : Reply) (o : Option Reply)
-    → Shows P reply → MatchOption o (reply.status ≡ 503) (λ other. (other ≡ reply) × (reply.status ≢ 503)) → Bears IsTold engine told g
-    → GivesBy P IsTold engine told g o
-shows-gives P IsTold engine told g reply None shows match bears = bears
-shows-gives P IsTold engine told g reply (Some other) shows match bears = elim shows [
+pub shows-gives : (P : Given → Type 0) (IsTold : Type 0) (engine : Engine) (told : Told) (g : History) (cursors : List ℕ) (reply : Reply)
+    (o : Option Reply) → Shows P reply → MatchOption o (reply.status ≡ 503) (λ other. (other ≡ reply) × (reply.status ≢ 503))
+    → Bears IsTold engine told g cursors → GivesBy (λ x next. Leaves cursors next (P x)) IsTold engine told g cursors o
+shows-gives P IsTold engine told g cursors reply None shows match bears = bears
+shows-gives P IsTold engine told g cursors reply (Some other) shows match bears = elim shows [
   | inl none ↦ absurd (match.1 (ap (λ (r : Reply). r.status) none))
-  | inr is ↦ record { given = alone reply; is = is; reply_is = match.0; bears = bears }
+  | inr is ↦ record { given = alone reply; next = cursors; is = (is, refl); reply_is = match.0; bears = bears }
 ]
 
 -- A batch of events that was taken, or refused, or for which there was no memory.
@@ -203,23 +214,27 @@ events-items inventory g body history begun =
         ap (λ es. items_of (grown g es)) given ∙ unstored-items g (entries_in inventory g (last_moment g) (Ok hits)) (subst (AreUnstored g) same are)
     by (Err refusal) is are = ap (λ a. items_of (grown g (events_by inventory g body a).entries)) is
 
-pub events-gives : (IsTold : Type 0) (inventory : InventoryState) (engine : Engine) (told : Told) (g : History) (body : List ℕ) (reply : Reply)
+pub events-gives : (IsTold : Type 0) (inventory : InventoryState) (engine : Engine) (told : Told) (g : History) (cursors body : List ℕ) (reply : Reply)
     (o : Option Reply) → IsHistory g → 0 < size g → (IsTold → IsLedgerOf inventory engine.ledger told.now g) → engine.state.inventory ≡ inventory
+    → cursors_in engine ≡ cursors
     → GivesEvents inventory g body reply engine.state → MatchOption o (reply.status ≡ 503) (λ other. (other ≡ reply) × (reply.status ≢ 503))
-    → GivesBy (λ given. given ≡ events_given inventory g body) IsTold engine told g o
-events-gives IsTold inventory engine told g body reply None history begun store same gives match = record {
+    → GivesBy (λ given next. Leaves cursors next (given ≡ events_given inventory g body)) IsTold engine told g cursors o
+events-gives IsTold inventory engine told g cursors body reply None history begun store same served gives match = record {
   stands = events-none inventory g body reply engine.state gives match;
+  served = served;
   store = λ t. subst (λ i. IsLedgerOf i engine.ledger told.now g) (sym same) (store t);
 }
-events-gives IsTold inventory engine told g body reply (Some other) history begun store same gives match =
+events-gives IsTold inventory engine told g cursors body reply (Some other) history begun store same served gives match =
     let some = events-some inventory g body reply engine.state gives match.1 in
     let es = (events_given inventory g body).entries in
     record {
       given = events_given inventory g body;
-      is = refl;
+      next = cursors;
+      is = (refl, refl);
       reply_is = match.0 ∙ some.0;
       bears = record {
         stands = some.1;
+        served = served;
         store = λ t.
             subst (λ i. IsLedgerOf i engine.ledger told.now (grown g es)) (sym same)
             (ledger-stays inventory engine.ledger told.now g es (events-items inventory g body history begun) (store t));
@@ -228,9 +243,9 @@ events-gives IsTold inventory engine told g body reply (Some other) history begu
 
 -- ---- a moment that isn't later than the last one
 
-pub passes : (IsTold : Type 0) (engine : Engine) (told : Told) (h : History) (moment : ℕ) → moment ≤ engine.state.last → IsMoment moment
-    → Bears IsTold engine told h → Bears IsTold engine told (entered h moment)
-passes IsTold engine told h moment le range bears =
+pub passes : (IsTold : Type 0) (engine : Engine) (told : Told) (h : History) (cursors : List ℕ) (moment : ℕ) → moment ≤ engine.state.last
+    → IsMoment moment → Bears IsTold engine told h cursors → Bears IsTold engine told (entered h moment) cursors
+passes IsTold engine told h cursors moment le range bears =
     let state = engine.state in
     let at-is : moment_after (last_moment h) moment ≡ state.last = omega (arith, le, bears.stands.last) in
     let adds = same-adds state.inventory h state.last state.last bears.stands.history bears.stands.begun bears.stands.last state.in_range (omega arith) (omega arith) (omega arith) in
@@ -243,10 +258,12 @@ passes IsTold engine told h moment le range bears =
         begun = omega arith;
         last = sym at-is ∙ sym (opening-moment (last_moment h) (moment_after (last_moment h) moment));
         jobs = opening-jobs state.inventory state.jobs h (last_moment h) (moment_after (last_moment h) moment) bears.stands.jobs;
+        subs = subs-opening (subscriptions_of state.subs) h _ (last_moment h) (moment_after (last_moment h) moment) bears.stands.subs;
         events = on.0;
         only = on.1;
         closing = closing-unstored state.inventory state.jobs h (opening h moment) state.closing (record { follows = here.0.1; without = here.1 }) bears.stands.closing;
       };
+      served = bears.served;
       store = λ t. ledger-stays state.inventory engine.ledger told.now h (opening h moment ∷ []) (items-none h (opening h moment) here.1) (bears.store t);
     }
 
@@ -256,7 +273,9 @@ reached-before h moment last is le = ap (λ b. cond b (entered h moment) h) (le-
 pub reached-after : (h : History) (moment last : ℕ) → last ≡ last_moment h → last < moment → reached h moment ≡ entered h moment
 reached-after h moment last is lt = ap (λ b. cond b (entered h moment) h) (lt-ltb (last_moment h) moment (omega (arith, is, lt)))
 
-pub reaches : (IsTold : Type 0) (engine : Engine) (told : Told) (h : History) (moment last : ℕ) (done : Bool) → last ≡ last_moment h → last < moment
-    → Bears IsTold engine told (if done then entered h moment else h) → Reaches IsTold engine told h moment done
-reaches IsTold engine told h moment last true is lt bears = (bears, subst (Bears IsTold engine told) (sym (reached-after h moment last is lt)) bears)
-reaches IsTold engine told h moment last false is lt bears = bears
+pub reaches : (IsTold : Type 0) (engine : Engine) (told : Told) (h : History) (cursors : List ℕ) (moment last : ℕ) (done : Bool)
+    → last ≡ last_moment h → last < moment → Bears IsTold engine told (if done then entered h moment else h) cursors
+    → Reaches IsTold engine told h cursors moment done
+reaches IsTold engine told h cursors moment last true is lt bears =
+    (bears, subst (λ g. Bears IsTold engine told g cursors) (sym (reached-after h moment last is lt)) bears)
+reaches IsTold engine told h cursors moment last false is lt bears = bears

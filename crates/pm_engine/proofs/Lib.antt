@@ -1,3 +1,4 @@
 pub mod BetweenLemmas
 pub mod BearsLemmas
 pub mod TurnLemmas
+pub mod SubsLemmas

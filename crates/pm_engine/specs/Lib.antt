@@ -4,3 +4,4 @@ pub mod Wish
 pub mod Turn
 pub mod Giving
 pub mod Refusals
+pub mod Round

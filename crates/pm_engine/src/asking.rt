@@ -1,11 +1,12 @@
 //! What a route asks of the state.
-ghost use Rattle.std.specs.Prelude.{◌≤◌, length};
+ghost use Rattle.std.specs.Prelude.{ℕ, ◌≤◌, List, length};
 ghost use Rattle.pm_batch.specs.declared.batch.TheConstants.{MOST_BODY};
 ghost use Rattle.pm_inventory.specs.Inventory.{InventoryState};
 ghost use Rattle.pm_history.specs.History.{History, last_moment};
 ghost use Rattle.pm_state.specs.Given.{Given};
 ghost use Rattle.pm_state.specs.Changes.{create_given, state_given, delete_given};
 ghost use Rattle.pm_state.specs.Step.{IsRouteGiven, OverJobs};
+ghost use Rattle.pm_state.specs.SubsGiven.{Leaves};
 ghost use Rattle.pm_engine.specs.Wish.{IsWishGiven, IsShort};
 
 use crate::wish::Wish;
@@ -16,7 +17,8 @@ use pm_jobs::Ask;
 /// What a route with this body asks.
 pub fn wish_of<'a>(route: &'a Route, body: &'a [u8]) -> Wish<'a>
     ensures few { length body.now ≤ MOST_BODY → IsShort result }
-    ensures given { (inventory : InventoryState) (g : History) (given : Given) → IsWishGiven inventory g result given → IsRouteGiven inventory g route.now body.now given }
+    ensures given { (inventory : InventoryState) (g : History) (cursors : List ℕ) (given : Given) (next : List ℕ)
+        → IsWishGiven inventory g cursors result given next → IsRouteGiven inventory g cursors route.now body.now given next }
 {
     match route {
         Route::JobPut { id } => create(Side::Job, id.as_bytes(), body),
@@ -40,14 +42,19 @@ pub fn wish_of<'a>(route: &'a Route, body: &'a [u8]) -> Wish<'a>
         Route::File { name } => Wish::File {
             name: name.as_bytes(),
         },
-        Route::SubscriptionPut { .. } | Route::SubscriptionDelete { .. } => Wish::Absent,
+        Route::SubscriptionPut { id } => Wish::Subscribe {
+            id: id.as_bytes(),
+            body,
+        },
+        Route::SubscriptionDelete { id } => Wish::Unsubscribe { id: id.as_bytes() },
     }
 }
 
 fn create<'a>(side: Side, id: &'a [u8], body: &'a [u8]) -> Wish<'a>
     ensures few { IsShort result }
-    ensures given { (inventory : InventoryState) (g : History) (given : Given) → IsWishGiven inventory g result given
-        → OverJobs inventory g (λ jobs. create_given inventory jobs (last_moment g) side id.now body.now) given }
+    ensures given { (inventory : InventoryState) (g : History) (cursors : List ℕ) (given : Given) (next : List ℕ)
+        → IsWishGiven inventory g cursors result given next
+        → Leaves cursors next (OverJobs inventory g (λ jobs. create_given inventory jobs (last_moment g) side id.now body.now) given) }
 {
     Wish::Change {
         side,
@@ -57,8 +64,9 @@ fn create<'a>(side: Side, id: &'a [u8], body: &'a [u8]) -> Wish<'a>
 
 fn set_state<'a>(side: Side, id: &'a [u8], body: &'a [u8]) -> Wish<'a>
     ensures few { IsShort result }
-    ensures given { (inventory : InventoryState) (g : History) (given : Given) → IsWishGiven inventory g result given
-        → OverJobs inventory g (λ jobs. state_given jobs (last_moment g) side id.now body.now) given }
+    ensures given { (inventory : InventoryState) (g : History) (cursors : List ℕ) (given : Given) (next : List ℕ)
+        → IsWishGiven inventory g cursors result given next
+        → Leaves cursors next (OverJobs inventory g (λ jobs. state_given jobs (last_moment g) side id.now body.now) given) }
 {
     Wish::Change {
         side,
@@ -68,8 +76,9 @@ fn set_state<'a>(side: Side, id: &'a [u8], body: &'a [u8]) -> Wish<'a>
 
 fn delete<'a>(side: Side, id: &'a [u8]) -> Wish<'a>
     ensures few { IsShort result }
-    ensures given { (inventory : InventoryState) (g : History) (given : Given) → IsWishGiven inventory g result given
-        → OverJobs inventory g (λ jobs. delete_given jobs (last_moment g) side id.now) given }
+    ensures given { (inventory : InventoryState) (g : History) (cursors : List ℕ) (given : Given) (next : List ℕ)
+        → IsWishGiven inventory g cursors result given next
+        → Leaves cursors next (OverJobs inventory g (λ jobs. delete_given jobs (last_moment g) side id.now) given) }
 {
     Wish::Change {
         side,

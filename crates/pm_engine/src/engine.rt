@@ -1,5 +1,5 @@
 //! The producer.
-ghost use Rattle.std.specs.Prelude.{◌≡◌, ◌⊎◌, ◌≤◌, ℕ, List, [], length, MatchOption, OnOk, IfOk, if◌then◌else◌};
+ghost use Rattle.std.specs.Prelude.{◌≡◌, ◌⊎◌, ◌≤◌, ℕ, List, [], length, MatchOption, OnOk, IfOk, Result, if◌then◌else◌};
 ghost use Rattle.pm_base.specs.Moment.{IsMoment};
 ghost use Rattle.pm_outside.specs.Causes.{faults_after};
 ghost use Rattle.pm_batch.specs.declared.batch.TheConstants.{MOST_BODY};
@@ -27,7 +27,8 @@ use pm_http::{Reply, Request, RouteError, Router};
 use pm_inventory::Inventory;
 use pm_jobs::Ask;
 use pm_ledger::Ledger;
-use pm_state::{State, first_item, refused};
+use pm_outside::Courier;
+use pm_state::{State, SubChange, first_item, refused};
 use std::alloc::Global;
 
 /// The producer: what it keeps of its history, and its store. After a fault of the disk it is spent, and the store is to be opened again.
@@ -41,9 +42,15 @@ pub struct Engine {
 
 impl Engine {
     ghost use Rattle.pm_engine.specs.Bears.{inventory_of, Bears, Run, settled_at, Carries, IsUsable};
+    ghost use Rattle.pm_engine.specs.Round.{Knows, Delivers};
+    ghost use Rattle.pm_notice.specs.Planned.{subscriptions_of, IsPlanOf};
+    ghost use Rattle.pm_notice.specs.Round.{faults_after_stops};
+    ghost use Rattle.pm_notice.specs.declared.error.SubError.{SubError};
+    ghost use Rattle.pm_notice.specs.declared.subscription.SubPlan.{SubPlan};
+    ghost use Rattle.pm_state.specs.SubsGiven.{Leaves, BeginsWithin, IsSubAnswer};
     ghost use Rattle.pm_engine.specs.Turn.{Gives, IsTurn, IsMost};
     ghost use Rattle.pm_engine.specs.Giving.{GivesBy, Meanwhile, Reaches};
-    ghost use Rattle.pm_engine.specs.Wish.{IsWishGiven, IsShort};
+    ghost use Rattle.pm_engine.specs.Wish.{IsWishGiven, IsShort, IsSubGiven, SubscribesBy, UnsubscribesBy};
     ghost use Rattle.pm_engine.specs.Refusals.{open_fails};
 
     /// Opens a store that has no items yet, and begins with a Boot at this moment.
@@ -55,7 +62,7 @@ impl Engine {
     ) -> Result<Engine, OpenError>
         requires { IsMoment boot }
 
-        ensures carries { IfOk result (λ engine. Carries D.IsTold engine (D.told disk.new) (settled_at (Start ▷ Boot boot))) }
+        ensures carries { IfOk result (λ engine. Carries D.IsTold engine (D.told disk.new) (settled_at (Start ▷ Boot boot) [])) }
         ensures inventory { IfOk result (λ engine. inventory_of engine ≡ inventory) }
         ensures usable { IfOk result (λ engine. IsUsable D.IsTold engine (D.told disk.new)) }
         ensures fresh { D.IsTold → IfOk result (λ engine. HasItems (D.told disk.old).now.first.seen []) }
@@ -91,9 +98,9 @@ impl Engine {
         requires moment { IsMoment moment }
         requires usable { IsUsable D.IsTold self.old (D.told disk.old) }
 
-        ensures entered { (h : History) → Bears D.IsTold self.old (D.told disk.old) h
-            → IfOk result (λ done. Bears D.IsTold self.new (D.told disk.new) (if done then entered h moment else h)) }
-        ensures any_moment { D.IsTold → (h : History) → Bears D.IsTold self.old (D.told disk.old) h
+        ensures entered { (h : History) (cursors : List ℕ) → Bears D.IsTold self.old (D.told disk.old) h cursors
+            → IfOk result (λ done. Bears D.IsTold self.new (D.told disk.new) (if done then entered h moment else h) cursors) }
+        ensures any_moment { D.IsTold → (h : History) (cursors : List ℕ) → Bears D.IsTold self.old (D.told disk.old) h cursors
             → Throughout (EachBetween (inventory_of self.old) (kept h) (kept (entered h moment))) (D.told disk.old) (D.told disk.new) }
         ensures usable { OnOk result (IsUsable D.IsTold self.new (D.told disk.new)) }
         ensures inventory { inventory_of self.new ≡ inventory_of self.old }
@@ -116,10 +123,10 @@ impl Engine {
     ) -> Result<Option<Reply>, EngineError>
         requires usable { IsUsable D.IsTold self.old (D.told disk.old) }
 
-        ensures changed { (g : History) → Bears D.IsTold self.old (D.told disk.old) g
-            → IfOk result (GivesBy (λ given. given ≡ change_given (inventory_of self.old) self.old.state.jobs self.old.state.last side ask.now) D.IsTold self.new (D.told disk.new) g) }
-        ensures any_moment { D.IsTold → (g : History) → Bears D.IsTold self.old (D.told disk.old) g
-            → Meanwhile (λ given. given ≡ change_given (inventory_of self.old) self.old.state.jobs self.old.state.last side ask.now) (inventory_of self.old) (D.told disk.old) (D.told disk.new) g }
+        ensures changed { (g : History) (cursors : List ℕ) → Bears D.IsTold self.old (D.told disk.old) g cursors
+            → IfOk result (GivesBy (λ given next. Leaves cursors next (given ≡ change_given (inventory_of self.old) self.old.state.jobs self.old.state.last side ask.now)) D.IsTold self.new (D.told disk.new) g cursors) }
+        ensures any_moment { D.IsTold → (g : History) (cursors : List ℕ) → Bears D.IsTold self.old (D.told disk.old) g cursors
+            → Meanwhile (λ given next. Leaves cursors next (given ≡ change_given (inventory_of self.old) self.old.state.jobs self.old.state.last side ask.now)) (inventory_of self.old) (D.told disk.old) (D.told disk.new) g }
         ensures usable { OnOk result (IsUsable D.IsTold self.new (D.told disk.new)) }
         ensures inventory { inventory_of self.new ≡ inventory_of self.old }
         ensures faults { D.faults disk.new ≡ faults_after (add_fails result) (D.faults disk.old) }
@@ -133,15 +140,85 @@ impl Engine {
         }
     }
 
+    // Makes a change of the subscriptions that was planned for a request on this id. None where there is no memory.
+    fn change_subscription<D: Disk>(
+        &mut self,
+        disk: &mut D,
+        change: Result<SubChange, Reply>,
+    ) -> Result<Option<Reply>, EngineError>
+        requires usable { IsUsable D.IsTold self.old (D.told disk.old) }
+        requires fits { IfOk change (λ c. IsPlanOf self.old.state.subs c.plan) }
+        requires begins { IfOk change (λ c. BeginsWithin self.old.state.closing.notices.total c.plan) }
+
+        ensures changed { (g : History) (cursors id : List ℕ) (plan : Result SubPlan SubError) → Bears D.IsTold self.old (D.told disk.old) g cursors
+            → IsSubAnswer (subscriptions_of self.old.state.subs) self.old.state.subs self.old.state.last id plan change
+            → IfOk result (GivesBy (IsSubGiven (subscriptions_of self.old.state.subs) self.old.state.last id plan) D.IsTold self.new (D.told disk.new) g cursors) }
+        ensures any_moment { D.IsTold → (g : History) (cursors id : List ℕ) (plan : Result SubPlan SubError) → Bears D.IsTold self.old (D.told disk.old) g cursors
+            → IsSubAnswer (subscriptions_of self.old.state.subs) self.old.state.subs self.old.state.last id plan change
+            → Meanwhile (IsSubGiven (subscriptions_of self.old.state.subs) self.old.state.last id plan) (inventory_of self.old) (D.told disk.old) (D.told disk.new) g }
+        ensures usable { OnOk result (IsUsable D.IsTold self.new (D.told disk.new)) }
+        ensures inventory { inventory_of self.new ≡ inventory_of self.old }
+        ensures faults { D.faults disk.new ≡ faults_after (add_fails result) (D.faults disk.old) }
+    {
+        match change {
+            Ok(change) => {
+                store(&mut self.ledger, disk, &change.item)?;
+                Ok(Some(self.state.enact_subscription(change)))
+            }
+            Err(reply) => Ok(unless_no_memory(reply)),
+        }
+    }
+
+    // Makes a subscription. None where there is no memory.
+    fn subscribe<D: Disk>(
+        &mut self,
+        disk: &mut D,
+        id: &[u8],
+        body: &[u8],
+    ) -> Result<Option<Reply>, EngineError>
+        requires usable { IsUsable D.IsTold self.old (D.told disk.old) }
+
+        ensures gives { (g : History) (cursors : List ℕ) → Bears D.IsTold self.old (D.told disk.old) g cursors
+            → IfOk result (GivesBy (SubscribesBy (inventory_of self.old) g cursors id.now body.now) D.IsTold self.new (D.told disk.new) g cursors) }
+        ensures any_moment { D.IsTold → (g : History) (cursors : List ℕ) → Bears D.IsTold self.old (D.told disk.old) g cursors
+            → Meanwhile (SubscribesBy (inventory_of self.old) g cursors id.now body.now) (inventory_of self.old) (D.told disk.old) (D.told disk.new) g }
+        ensures usable { OnOk result (IsUsable D.IsTold self.new (D.told disk.new)) }
+        ensures inventory { inventory_of self.new ≡ inventory_of self.old }
+        ensures faults { D.faults disk.new ≡ faults_after (add_fails result) (D.faults disk.old) }
+    {
+        let change = self.state.subscribe(id, body);
+        self.change_subscription(disk, change)
+    }
+
+    // Ends a subscription. None where there is no memory.
+    fn unsubscribe<D: Disk>(
+        &mut self,
+        disk: &mut D,
+        id: &[u8],
+    ) -> Result<Option<Reply>, EngineError>
+        requires usable { IsUsable D.IsTold self.old (D.told disk.old) }
+
+        ensures gives { (g : History) (cursors : List ℕ) → Bears D.IsTold self.old (D.told disk.old) g cursors
+            → IfOk result (GivesBy (UnsubscribesBy g cursors id.now) D.IsTold self.new (D.told disk.new) g cursors) }
+        ensures any_moment { D.IsTold → (g : History) (cursors : List ℕ) → Bears D.IsTold self.old (D.told disk.old) g cursors
+            → Meanwhile (UnsubscribesBy g cursors id.now) (inventory_of self.old) (D.told disk.old) (D.told disk.new) g }
+        ensures usable { OnOk result (IsUsable D.IsTold self.new (D.told disk.new)) }
+        ensures inventory { inventory_of self.new ≡ inventory_of self.old }
+        ensures faults { D.faults disk.new ≡ faults_after (add_fails result) (D.faults disk.old) }
+    {
+        let change = self.state.unsubscribe(id);
+        self.change_subscription(disk, change)
+    }
+
     // What a wish is given. None where there is no memory.
     fn give<D: Disk>(&mut self, disk: &mut D, wish: Wish) -> Result<Option<Reply>, EngineError>
         requires usable { IsUsable D.IsTold self.old (D.told disk.old) }
         requires few { IsShort wish }
 
-        ensures gives { (g : History) → Bears D.IsTold self.old (D.told disk.old) g
-            → IfOk result (GivesBy (IsWishGiven (inventory_of self.old) g wish.entry) D.IsTold self.new (D.told disk.new) g) }
-        ensures any_moment { D.IsTold → (g : History) → Bears D.IsTold self.old (D.told disk.old) g
-            → Meanwhile (IsWishGiven (inventory_of self.old) g wish.entry) (inventory_of self.old) (D.told disk.old) (D.told disk.new) g }
+        ensures gives { (g : History) (cursors : List ℕ) → Bears D.IsTold self.old (D.told disk.old) g cursors
+            → IfOk result (GivesBy (IsWishGiven (inventory_of self.old) g cursors wish.entry) D.IsTold self.new (D.told disk.new) g cursors) }
+        ensures any_moment { D.IsTold → (g : History) (cursors : List ℕ) → Bears D.IsTold self.old (D.told disk.old) g cursors
+            → Meanwhile (IsWishGiven (inventory_of self.old) g cursors wish.entry) (inventory_of self.old) (D.told disk.old) (D.told disk.new) g }
         ensures usable { OnOk result (IsUsable D.IsTold self.new (D.told disk.new)) }
         ensures inventory { inventory_of self.new ≡ inventory_of self.old }
         ensures faults { D.faults disk.new ≡ faults_after (add_fails result) (D.faults disk.old) }
@@ -152,7 +229,8 @@ impl Engine {
             Wish::Events { body } => Ok(unless_no_memory(self.state.take_events(body))),
             Wish::Files { query } => Ok(unless_no_memory(self.state.list_files(query))),
             Wish::File { name } => Ok(unless_no_memory(self.state.show_file(name))),
-            Wish::Absent => Ok(Some(refused(self.alloc, Code::H5))),
+            Wish::Subscribe { id, body } => self.subscribe(disk, id, body),
+            Wish::Unsubscribe { id } => self.unsubscribe(disk, id),
         }
     }
 
@@ -165,10 +243,10 @@ impl Engine {
         requires usable { IsUsable D.IsTold self.old (D.told disk.old) }
         requires few { length request.now.body ≤ MOST_BODY }
 
-        ensures gives { (g : History) → Bears D.IsTold self.old (D.told disk.old) g
-            → IfOk result (GivesBy (Gives (inventory_of self.old) g request.now) D.IsTold self.new (D.told disk.new) g) }
-        ensures any_moment { D.IsTold → (g : History) → Bears D.IsTold self.old (D.told disk.old) g
-            → Meanwhile (Gives (inventory_of self.old) g request.now) (inventory_of self.old) (D.told disk.old) (D.told disk.new) g }
+        ensures gives { (g : History) (cursors : List ℕ) → Bears D.IsTold self.old (D.told disk.old) g cursors
+            → IfOk result (GivesBy (Gives (inventory_of self.old) g cursors request.now) D.IsTold self.new (D.told disk.new) g cursors) }
+        ensures any_moment { D.IsTold → (g : History) (cursors : List ℕ) → Bears D.IsTold self.old (D.told disk.old) g cursors
+            → Meanwhile (Gives (inventory_of self.old) g cursors request.now) (inventory_of self.old) (D.told disk.old) (D.told disk.new) g }
         ensures usable { OnOk result (IsUsable D.IsTold self.new (D.told disk.new)) }
         ensures inventory { inventory_of self.new ≡ inventory_of self.old }
         ensures faults { D.faults disk.new ≡ faults_after (add_fails result) (D.faults disk.old) }
@@ -186,9 +264,9 @@ impl Engine {
         requires moment { IsMoment moment }
         requires usable { IsUsable D.IsTold self.old (D.told disk.old) }
 
-        ensures reaches { (h : History) → Bears D.IsTold self.old (D.told disk.old) h
-            → IfOk result (Reaches D.IsTold self.new (D.told disk.new) h moment) }
-        ensures any_moment { D.IsTold → (h : History) → Bears D.IsTold self.old (D.told disk.old) h
+        ensures reaches { (h : History) (cursors : List ℕ) → Bears D.IsTold self.old (D.told disk.old) h cursors
+            → IfOk result (Reaches D.IsTold self.new (D.told disk.new) h cursors moment) }
+        ensures any_moment { D.IsTold → (h : History) (cursors : List ℕ) → Bears D.IsTold self.old (D.told disk.old) h cursors
             → Throughout (EachBetween (inventory_of self.old) (kept h) (kept (entered h moment))) (D.told disk.old) (D.told disk.new) }
         ensures usable { OnOk result (IsUsable D.IsTold self.new (D.told disk.new)) }
         ensures inventory { inventory_of self.new ≡ inventory_of self.old }
@@ -217,7 +295,7 @@ impl Engine {
 
         // At every moment of the call each image holds a history between what is kept of the settled one and what is kept of that with the turn.
         ensures any_moment { D.IsTold → (run : Run) → Carries D.IsTold self.old (D.told disk.old) run
-            → (most : History) × IsMost (inventory_of self.old) moment request.now run.history most
+            → (most : History) × IsMost (inventory_of self.old) moment request.now run.history run.cursors most
             × Throughout (EachBetween (inventory_of self.old) (kept run.settled) (kept most)) (D.told disk.old) (D.told disk.new) }
         ensures usable { OnOk result (IsUsable D.IsTold self.new (D.told disk.new)) }
         ensures inventory { inventory_of self.new ≡ inventory_of self.old }
@@ -228,5 +306,17 @@ impl Engine {
         }
         let reply = self.give_request(disk, request)?;
         Ok(finished(self.alloc, request, reply))
+    }
+
+    /// Posts the notices that are due, after a turn: one round for each subscription, from its cursor on. It changes the cursors alone, and
+    /// takes no memory. A post that fails ends the round of its subscription, and is no answer.
+    pub fn deliver<P: Courier>(&mut self, courier: &mut P)
+        ensures delivers { (run : Run) → Knows self.old run
+            → (short : ℕ) × Delivers P.IsTold (P.posts courier.old) (P.posts courier.new) self.old self.new run short
+            × (P.faults courier.new ≡ faults_after_stops short (P.faults courier.old)) }
+        ensures inventory { inventory_of self.new ≡ inventory_of self.old }
+        ensures store { self.new.ledger ≡ self.old.ledger }
+    {
+        self.state.deliver(courier);
     }
 }

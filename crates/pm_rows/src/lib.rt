@@ -7,6 +7,8 @@ mod files;
 #[cfg(test)]
 mod generated;
 #[cfg(test)]
+mod notices;
+#[cfg(test)]
 mod refusals;
 #[cfg(test)]
 mod runs;

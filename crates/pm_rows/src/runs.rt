@@ -3,7 +3,7 @@
 use crate::tally::{spelled, words};
 use pm_base::Code;
 use pm_disk::{Area, MemDisk};
-use pm_outside::{MemSink, MemSource};
+use pm_outside::{MemCourier, MemSink, MemSource};
 use pm_top::{Status, pmd};
 use std::alloc::Global;
 use std::process::Abort;
@@ -30,9 +30,10 @@ pub fn written_by(rt: &impl Abort, alloc: Global, requests: &str) -> Result<Vec<
     let mut source = MemSource::new(alloc, input.as_bytes(), &[])?;
     let mut sink = MemSink::new(alloc, ROOM, &[])?;
     let mut disk = MemDisk::new(alloc, ROOM, &[])?;
+    let mut courier = MemCourier::new(alloc, 0, 0, &[])?;
     let run = words(alloc, &["run", "--boot", "1699999100"])?;
     assert_eq!(rt;
-        pmd(alloc, &run, &mut source, &mut sink, &mut disk),
+        pmd(alloc, &run, &mut source, &mut sink, &mut disk, &mut courier),
         Status::Done,
         "at {requests:?}"
     );
@@ -51,9 +52,10 @@ fn ends(
     let mut source = MemSource::new(alloc, input.as_bytes(), &[])?;
     let mut sink = MemSink::new(alloc, ROOM, &[])?;
     let mut disk = MemDisk::new(alloc, ROOM, &[])?;
+    let mut courier = MemCourier::new(alloc, 0, 0, &[])?;
     let run = words(alloc, &["run", "--boot", "1699999100"])?;
     assert_eq!(rt;
-        pmd(alloc, &run, &mut source, &mut sink, &mut disk),
+        pmd(alloc, &run, &mut source, &mut sink, &mut disk, &mut courier),
         status,
         "at {requests:?}"
     );
@@ -150,7 +152,8 @@ fn each_change_that_is_replied_to_is_stored(rt: HostRuntime) -> Result<(), Fail>
         let mut source = MemSource::new(alloc, input.as_bytes(), &[])?;
         let mut sink = MemSink::new(alloc, ROOM, &[])?;
         let mut disk = MemDisk::new(alloc, ROOM, &[call])?;
-        let status = pmd(alloc, &run, &mut source, &mut sink, &mut disk);
+        let mut courier = MemCourier::new(alloc, 0, 0, &[])?;
+        let status = pmd(alloc, &run, &mut source, &mut sink, &mut disk, &mut courier);
         let items = count_items(disk.bytes(Area::First));
         let replies = count_successes(sink.written());
         if status == Status::Done {

@@ -3,7 +3,7 @@ ghost use Rattle.std.specs.Prelude.{List, [], ◌≤◌};
 
 use pm_base::Code;
 use pm_disk::MemDisk;
-use pm_outside::{Failed, Feed, Line, MemSink, MemSource, Source};
+use pm_outside::{Failed, Feed, Line, MemCourier, MemSink, MemSource, Source};
 use pm_tally::{PlainTally, plain_tally};
 use pm_top::{Status, pmd};
 use std::alloc::{AllocError, Global};
@@ -95,9 +95,17 @@ fn the_rows_are_tallied_as_by_hand(rt: HostRuntime) -> Result<(), Fail> {
         let mut source = MemSource::new(alloc, given.as_bytes(), &[])?;
         let mut sink = MemSink::new(alloc, ROOM, &[])?;
         let mut disk = MemDisk::new(alloc, 0, &[])?;
+        let mut courier = MemCourier::new(alloc, 0, 0, &[])?;
         let tally = words(alloc, &["tally"])?;
         assert_eq!(rt;
-            pmd(alloc, &tally, &mut source, &mut sink, &mut disk),
+            pmd(
+                alloc,
+                &tally,
+                &mut source,
+                &mut sink,
+                &mut disk,
+                &mut courier
+            ),
             status,
             "at {input:?}"
         );
@@ -125,9 +133,17 @@ fn other_words_than_those_of_a_command_are_refused(rt: HostRuntime) -> Result<()
         let mut source = MemSource::new(alloc, b"end\n", &[])?;
         let mut sink = MemSink::new(alloc, ROOM, &[])?;
         let mut disk = MemDisk::new(alloc, 0, &[])?;
+        let mut courier = MemCourier::new(alloc, 0, 0, &[])?;
         let other = words(alloc, row)?;
         assert_eq!(rt;
-            pmd(alloc, &other, &mut source, &mut sink, &mut disk),
+            pmd(
+                alloc,
+                &other,
+                &mut source,
+                &mut sink,
+                &mut disk,
+                &mut courier
+            ),
             Status::Usage
         );
     }
@@ -148,8 +164,16 @@ pub fn compare(
         let mut source = Slow { left: input, most };
         let mut sink = MemSink::new(alloc, ROOM, &[])?;
         let mut disk = MemDisk::new(alloc, 0, &[])?;
+        let mut courier = MemCourier::new(alloc, 0, 0, &[])?;
         assert_eq!(rt;
-            pmd(alloc, &tally, &mut source, &mut sink, &mut disk),
+            pmd(
+                alloc,
+                &tally,
+                &mut source,
+                &mut sink,
+                &mut disk,
+                &mut courier
+            ),
             Status::from(plain.end),
             "row {at} by {most}"
         );
@@ -221,8 +245,16 @@ fn faults_end_a_tally_after_the_lines_of_ended_ticks(rt: HostRuntime) -> Result<
     let mut source = MemSource::new(alloc, input.as_bytes(), &[2])?;
     let mut sink = MemSink::new(alloc, ROOM, &[])?;
     let mut disk = MemDisk::new(alloc, 0, &[])?;
+    let mut courier = MemCourier::new(alloc, 0, 0, &[])?;
     assert_eq!(rt;
-        pmd(alloc, &tally, &mut source, &mut sink, &mut disk),
+        pmd(
+            alloc,
+            &tally,
+            &mut source,
+            &mut sink,
+            &mut disk,
+            &mut courier
+        ),
         Status::ReadFault
     );
     assert_eq!(rt; sink.written(), written.as_bytes());
@@ -231,8 +263,16 @@ fn faults_end_a_tally_after_the_lines_of_ended_ticks(rt: HostRuntime) -> Result<
     let mut source = MemSource::new(alloc, input.as_bytes(), &[])?;
     let mut sink = MemSink::new(alloc, ROOM, &[1])?;
     let mut disk = MemDisk::new(alloc, 0, &[])?;
+    let mut courier = MemCourier::new(alloc, 0, 0, &[])?;
     assert_eq!(rt;
-        pmd(alloc, &tally, &mut source, &mut sink, &mut disk),
+        pmd(
+            alloc,
+            &tally,
+            &mut source,
+            &mut sink,
+            &mut disk,
+            &mut courier
+        ),
         Status::WriteFault
     );
     assert_eq!(rt; sink.written(), b"".as_slice());

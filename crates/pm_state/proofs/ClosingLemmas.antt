@@ -28,8 +28,10 @@ use Rattle.pm_close.proofs.CloserLemmas.{closer-stays}
 use Rattle.pm_ready.specs.Files.{File}
 use Rattle.pm_ready.specs.Kept.{FilesStand}
 use Rattle.pm_ready.proofs.KeptLemmas.{stand-same}
+use Rattle.pm_notify.specs.Kept.{NoticesState, NoticesStand}
+use Rattle.pm_notify.proofs.KeptLemmas as of_notices
 use Rattle.pm_state.specs.declared.closing.Closing.{Closing}
-use Rattle.pm_state.specs.Closing.{ClosingStands}
+use Rattle.pm_state.specs.Closing.{ClosingStands, IsKept}
 use Rattle.pm_state.specs.ChangeItem.{AreChangesAt}
 use Rattle.pm_state.specs.Opening.{is_boot, opening_in}
 
@@ -40,6 +42,7 @@ pub closing-unstored : (inventory : InventoryState) (jobs : JobsState) (h : Hist
 closing-unstored inventory jobs h e closing unstored stand = record {
   closer = closer-stays.unstored inventory jobs h e closing.closer unstored stand.closer;
   files = stand-same inventory h e closing.files.files unstored.follows.later (unstored_in_tick h e unstored).1 stand.files;
+  notices = of_notices.stand-same inventory h e closing.notices unstored.follows.later (unstored_in_tick h e unstored).1 stand.notices;
 }
 
 pub closing-batch : (inventory : InventoryState) (jobs : JobsState) (h : History) (es : List Entry) (closing : Closing) → AreUnstored h es
@@ -56,6 +59,13 @@ files-changed inventory h moment [] files is all stand = stand
 files-changed inventory h moment (e ∷ es) files is all stand =
     files-changed inventory (h ▷ e) moment es files (sym all.0.moment_is) all.1
     (stand-same inventory h e files (omega (arith, all.0.moment_is, is)) (ap tick_of (all.0.moment_is ∙ is)) stand)
+
+pub notices-changed : (inventory : InventoryState) (h : History) (moment : ℕ) (es : List Entry) (s : NoticesState) → moment ≡ last_moment h
+    → AreChangesAt moment es → NoticesStand inventory h s → NoticesStand inventory (grown h es) s
+notices-changed inventory h moment [] s is all stand = stand
+notices-changed inventory h moment (e ∷ es) s is all stand =
+    notices-changed inventory (h ▷ e) moment es s (sym all.0.moment_is) all.1
+    (of_notices.stand-same inventory h e s (omega (arith, all.0.moment_is, is)) (ap tick_of (all.0.moment_is ∙ is)) stand)
 
 -- ---- ticks that end
 
@@ -83,11 +93,22 @@ all-keep inventory side h (s ∷ ss) all = (all.0.keeps, all-keep inventory side
 
 -- ---- the closing
 
+notices-same : (inventory : InventoryState) (h : History) (old new : NoticesState) → IsKept old new → NoticesStand inventory h old
+    → NoticesStand inventory h new
+notices-same inventory h old new same stand = record {
+  all = stand.all;
+  told = stand.told;
+  total = same.total ∙ stand.total;
+  kept = same.kept ∙ stand.kept;
+}
+
 pub closing-same : (inventory : InventoryState) (jobs : JobsState) (h : History) (old new : Closing) → new.closer ≡ old.closer
-    → new.files.files ≡ old.files.files → ClosingStands inventory jobs h old → ClosingStands inventory jobs h new
-closing-same inventory jobs h old new closer files stand = record {
+    → new.files.files ≡ old.files.files → IsKept old.notices new.notices → ClosingStands inventory jobs h old
+    → ClosingStands inventory jobs h new
+closing-same inventory jobs h old new closer files kept stand = record {
   closer = subst (CloserStands inventory jobs h) (sym closer) stand.closer;
   files = subst (FilesStand inventory h) (sym files) stand.files;
+  notices = notices-same inventory h old.notices new.notices kept stand.notices;
 }
 
 pub ended-moment : (boot : Bool) (moment : ℕ) → moment_of (ended_by boot moment) ≡ moment

@@ -4,5 +4,8 @@ pub mod FilledLemmas
 pub mod OnlyLemmas
 pub mod ClosingLemmas
 pub mod DueLemmas
+pub mod NoticeLemmas
 pub mod StateLemmas
+pub mod SubsLemmas
+pub mod WithinLemmas
 pub mod OpeningLemmas

@@ -12,7 +12,9 @@ use Rattle.pm_state.specs.declared.closing.Ended.{Ended}
 use Rattle.pm_state.specs.declared.opening.Prepared.{Prepared}
 use Rattle.pm_state.specs.declared.state.State.{State}
 use Rattle.pm_state.specs.Closing.{ClosingStands, IsEnd}
-use Rattle.pm_state.specs.Opening.{is_boot, opening_in, moment_after, AddsAt}
+use Rattle.pm_notice.specs.Planned.{subscriptions_of}
+use Rattle.pm_notice.specs.StandFor.{cursors_of}
+use Rattle.pm_state.specs.Opening.{is_boot, opening_in, moment_after, AddsAt, KeepsCursors}
 use Rattle.pm_state.specs.Stands.{EndsWith, IsOpening, IsPrepared}
 use Rattle.pm_state.proofs.ClosingLemmas.{ended-is}
 use Rattle.pm_state.proofs.StateLemmas.{adds-ends, adds-history}
@@ -33,11 +35,13 @@ ended-history state h moment boot bytes is adds =
 -- A Boot, or a Now in a later tick.
 pub opening-ends : (state : State) (h : History) (moment : ℕ) (boot : Bool) (bytes : List ℕ) (ended : Ended) (prepared : Prepared)
     → is_boot (last_moment h) moment ≡ boot → AddsAt state.inventory h moment (Some bytes)
+    → KeepsCursors (cursors_of (subscriptions_of state.subs)) (Some bytes)
     → IsEnd state.inventory state.jobs h boot moment state.closing ended
     → prepared.moment ≡ moment → prepared.item ≡ Some bytes → prepared.ended ≡ Some ended → IsOpening state h moment prepared
-opening-ends state h moment boot bytes ended prepared is adds end at item ends = record {
+opening-ends state h moment boot bytes ended prepared is adds served end at item ends = record {
   at = at;
   adds = subst (AddsAt state.inventory h moment) (sym item) adds;
+  served = subst (KeepsCursors (cursors_of (subscriptions_of state.subs))) (sym item) served;
   ends = rw ends (
     adds-ends state.inventory h (last_moment h) moment (Some bytes) adds,
     subst (λ (b : Bool). IsEnd state.inventory state.jobs h b moment state.closing ended) (sym is) end,
@@ -50,6 +54,7 @@ pub opening-stays : (state : State) (h : History) (moment : ℕ) (prepared : Pre
 opening-stays state h moment prepared adds at item ends = record {
   at = at;
   adds = subst (AddsAt state.inventory h moment) (sym item) adds;
+  served = subst (KeepsCursors (cursors_of (subscriptions_of state.subs))) (sym item) tt;
   ends = rw ends (adds-ends state.inventory h (last_moment h) moment None adds);
 }
 

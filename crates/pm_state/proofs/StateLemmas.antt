@@ -45,11 +45,11 @@ use Rattle.pm_state.proofs.OnlyLemmas.{only-stays, only-batch}
 -- ---- jobs and monitors
 
 -- An entry does nothing to them.
-record DoesNothing (e : Entry) : Type 0 where
-  none : (side : Side) (id : List ℕ) → change_of side id e ≡ None
-  ids : (side : Side) (ids : List (List ℕ)) → ids_next side ids e ≡ ids
+pub record DoesNothing (e : Entry) : Type 0 where
+  pub none : (side : Side) (id : List ℕ) → change_of side id e ≡ None
+  pub ids : (side : Side) (ids : List (List ℕ)) → ids_next side ids e ≡ ids
 
-jobs-stay : (inventory : InventoryState) (jobs : JobsState) (h : History) (e : Entry) → DoesNothing e → Stands inventory jobs h
+pub jobs-stay : (inventory : InventoryState) (jobs : JobsState) (h : History) (e : Entry) → DoesNothing e → Stands inventory jobs h
     → Stands inventory jobs (h ▷ e)
 jobs-stay inventory jobs h e nothing is = record {
   of_jobs = record {
@@ -257,16 +257,16 @@ now-follows : (h : History) (last moment : ℕ) → IsHistory h → last ≡ las
 now-follows h last moment history is range later =
     (history, record { moment = range; value = omega arith; later = omega (arith, is, later); beside = λ other. absurd (cc (other)) })
 
-pub booked-adds : (inventory : InventoryState) (h : History) (last moment : ℕ) (cells : List Cell) (bytes : List ℕ) → IsHistory h → 0 < size h
+pub booked-adds : (inventory : InventoryState) (h : History) (last moment : ℕ) (cells : List Cell) (cursors bytes : List ℕ) → IsHistory h → 0 < size h
     → last ≡ last_moment h → IsMoment moment → last ≤ moment → moment ≤ last + 86400 → tick_of last < tick_of moment
-    → cells ≡ map (open_cell h) (slots inventory) → OnlySlots inventory h → HasText (stored.Booked moment (tick_of last) (filled cells) []) bytes
+    → cells ≡ map (open_cell h) (slots inventory) → OnlySlots inventory h → HasText (stored.Booked moment (tick_of last) (filled cells) cursors) bytes
     → AddsAt inventory h moment (Some bytes)
-booked-adds inventory h last moment cells bytes history some is range later near lt are only text =
+booked-adds inventory h last moment cells cursors bytes history some is range later near lt are only text =
     let test : ltb (last_moment h + 86400) moment ≡ false = le-ltb _ _ (omega (arith, is, near)) in
     let passes = later-is h moment some (subst (λ m. tick_of m < tick_of moment) is lt) in
     rw test (record {
       history = now-follows h last moment history is range later;
-      item = stored.Booked moment (tick_of last) (filled cells) [];
+      item = stored.Booked moment (tick_of last) (filled cells) cursors;
       text = text;
       over = tt;
       is = ap (λ b. cond b (Some (Booked moment (tick_of (last_moment h)) (open_cells h))) None) passes

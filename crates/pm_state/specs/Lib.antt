@@ -7,5 +7,6 @@ pub mod Opening
 pub mod Filled
 pub mod Closing
 pub mod FilesGiven
+pub mod SubsGiven
 pub mod Stands
 pub mod Step

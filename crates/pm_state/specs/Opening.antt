@@ -5,7 +5,9 @@ use Rattle.pm_history.specs.declared.entry.Entry.{Entry}
 use Rattle.pm_history.specs.declared.entry.Entry.TheVariants.{Boot, Now}
 use Rattle.pm_history.specs.History.{History, ◌▷◌, last_moment, IsHistory}
 use Rattle.pm_items.specs.Items.{item_of}
-use Rattle.pm_ledger.specs.Stored.{AddsItem}
+use Rattle.pm_ledger.specs.Stored.{HasText, AddsItem}
+use Rattle.pm_store.specs.declared.item.Item1.{Item1}
+use Rattle.pm_store.specs.declared.item.Item1.TheVariants as stored
 use Rattle.pm_state.specs.declared.opening.TheConstants.{MOST_GAP}
 
 -- Moments never fall: one that is handed in late counts as the last moment.
@@ -38,3 +40,13 @@ AddsOpening inventory h e (Some bytes) = AddsItem inventory h e bytes
 -- The same at a moment that isn't before the last one.
 abbrev pub AddsAt : InventoryState → History → ℕ → Option (List ℕ) → Type 0
 AddsAt inventory h moment item = AddsOpening inventory h (opening_in (last_moment h) moment) item
+
+-- An item of a Now keeps these cursors of subscriptions, as they were before its own notices; others keep none.
+abbrev pub KeepsIn : List ℕ → Item1 → Type 0
+KeepsIn cursors (stored.Booked moment tick cells kept) = kept ≡ cursors
+KeepsIn cursors _ = Unit {0}
+
+-- The same of its bytes, if there is an item.
+abbrev pub KeepsCursors : List ℕ → Option (List ℕ) → Type 0
+KeepsCursors cursors None = Unit {0}
+KeepsCursors cursors (Some bytes) = (item : Item1) × HasText item bytes × KeepsIn cursors item

@@ -6,12 +6,14 @@ use Rattle.pm_history.specs.History.{History, grown, size, last_moment, IsHistor
 use Rattle.pm_items.specs.Items.{open_values, ends_tick}
 use Rattle.pm_jobs.specs.Stands.{Stands}
 use Rattle.pm_batch.specs.OpenEvents.{EventsStand}
+use Rattle.pm_notice.specs.Planned.{subscriptions_of}
+use Rattle.pm_notice.specs.StandFor.{StandFor, cursors_of}
 use Rattle.pm_http.specs.declared.reply.Reply.{Reply}
 use Rattle.pm_state.specs.declared.state.State.{State}
 use Rattle.pm_state.specs.declared.closing.Ended.{Ended}
 use Rattle.pm_state.specs.declared.opening.Prepared.{Prepared}
 use Rattle.pm_state.specs.Closing.{ClosingStands, IsEnd, MayEnact}
-use Rattle.pm_state.specs.Opening.{is_boot, opening_in, moment_after, AddsAt}
+use Rattle.pm_state.specs.Opening.{is_boot, opening_in, moment_after, AddsAt, KeepsCursors}
 use Rattle.pm_state.specs.Given.{no_memory}
 use Rattle.pm_state.specs.Step.{events_given}
 
@@ -19,12 +21,14 @@ use Rattle.pm_state.specs.Step.{events_given}
 abbrev pub OnlySlots : InventoryState → History → Type 0
 OnlySlots inventory h = (object metric : ℕ) → slot_number inventory object metric ≡ None → open_values object metric h ≡ []
 
--- A state stands for a history: it has its last moment, its jobs and monitors, the events of its open tick, and what ends with it.
+-- A state stands for a history: it has its last moment, its jobs and monitors, its subscriptions, the events of its open tick, and what
+-- ends with it. The cursors of the subscriptions are no part of a history.
 pub record StateStands (h : History) (state : State) : Type 0 where
   pub history : IsHistory h
   pub begun : 0 < size h
   pub last : state.last ≡ last_moment h
   pub jobs : Stands state.inventory state.jobs h
+  pub subs : StandFor (subscriptions_of state.subs) h (cursors_of (subscriptions_of state.subs))
   pub events : EventsStand state.inventory h [] state.events
   pub only : OnlySlots state.inventory h
   pub closing : ClosingStands state.inventory state.jobs h state.closing
@@ -48,6 +52,7 @@ EndsWith state h moment (Some ended) =
 pub record IsOpening (state : State) (h : History) (moment : ℕ) (prepared : Prepared) : Type 0 where
   pub at : prepared.moment ≡ moment
   pub adds : AddsAt state.inventory h moment prepared.item
+  pub served : KeepsCursors (cursors_of (subscriptions_of state.subs)) prepared.item
   pub ends : EndsWith state h moment prepared.ended
 
 -- The same at any moment.

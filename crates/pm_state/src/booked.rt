@@ -15,7 +15,7 @@ use pm_store::{Cells, Cursors, Item1, VERSION, encode};
 use std::alloc::{AllocError, Global};
 
 // An item that passes the lengths of its fields takes more memory than there is.
-fn bytes_of(alloc: Global, item: &Item1) -> Result<Blob, AllocError>
+pub(crate) fn bytes_of(alloc: Global, item: &Item1) -> Result<Blob, AllocError>
     ensures { IfOk result (HasText item.now) }
 {
     if !item.has_bytes() {
@@ -55,14 +55,15 @@ fn filled_cells(alloc: Global, cells: &[Cell]) -> Result<Vec<(u16, Cell)>, Alloc
     Ok(pairs)
 }
 
-/// The bytes of the item of a Now that ends this tick, which has these cells.
+/// The bytes of the item of a Now that ends this tick, which has these cells, where the subscriptions have these cursors.
 pub fn booked_bytes(
     alloc: Global,
     moment: u64,
     tick: u64,
     cells: &[Cell],
+    cursors: Vec<u64>,
 ) -> Result<Blob, AllocError>
-    ensures { IfOk result (HasText (stored.Booked moment tick (filled cells.now) [])) }
+    ensures { IfOk result (HasText (stored.Booked moment tick (filled cells.now) cursors.items)) }
 {
     let cells = Cells::from_vec(filled_cells(alloc, cells)?);
     bytes_of(
@@ -71,7 +72,7 @@ pub fn booked_bytes(
             moment,
             tick,
             cells,
-            cursors: Cursors::from_vec(Vec::new(alloc)),
+            cursors: Cursors::from_vec(cursors),
         },
     )
 }

@@ -1,4 +1,4 @@
-//! What ends with ticks, and what came of it: what is open of jobs and monitors, and the report files.
+//! What ends with ticks, and what came of it: what is open of jobs and monitors, the report files and the notices.
 ghost use Rattle.std.specs.Prelude.{◌≡◌, ◌≤◌, ◌<◌, [], Bool, false, length, IfOk};
 ghost use Rattle.pm_base.specs.Moment.{IsMoment, tick_of};
 ghost use Rattle.pm_inventory.specs.Inventory.{InventoryState, slots};
@@ -9,21 +9,23 @@ ghost use Rattle.pm_jobs.specs.Stands.{Stands};
 ghost use Rattle.pm_close.specs.Rows.{AreSmall};
 ghost use Rattle.pm_close.specs.Closer.{ArePaired, AreCurrent, closer_tick};
 ghost use Rattle.pm_close.specs.DueReports.{ended_by};
-ghost use Rattle.pm_state.specs.Closing.{ClosingStands, IsEnd, MayEnact};
+ghost use Rattle.pm_state.specs.Closing.{ClosingStands, IsKept, IsEnd, MayEnact};
 
 use crate::report_files::due_files;
 use pm_close::{Booking, Closer};
 use pm_inventory::Inventory;
 use pm_jobs::Jobs;
 use pm_meas::Cell;
+use pm_notify::{AddedNotices, Notices};
 use pm_ready::{ReadyFile, ReadyFiles};
 use std::alloc::{AllocError, Global};
 
-/// What is open of jobs and monitors, and the report files that aren't expired.
+/// What is open of jobs and monitors, and the report files and notices that aren't expired.
 #[derive(Drop)]
 pub struct Closing {
     pub(crate) closer: Closer,
     pub(crate) files: ReadyFiles,
+    pub(crate) notices: Notices,
 }
 
 /// What an entry that ends ticks comes to, with all memory that it takes.
@@ -31,6 +33,7 @@ pub struct Closing {
 pub struct Ended {
     booking: Booking,
     files: Vec<ReadyFile>,
+    notices: AddedNotices,
 }
 
 impl Closing {
@@ -45,6 +48,7 @@ impl Closing {
         Ok(Closing {
             closer,
             files: ReadyFiles::new(alloc),
+            notices: Notices::new(alloc),
         })
     }
 
@@ -67,14 +71,25 @@ impl Closing {
         ensures may { IfOk result (MayEnact self.new (tick_of moment)) }
         ensures closer { self.new.closer ≡ self.old.closer }
         ensures files { self.new.files.files ≡ self.old.files.files }
+        ensures notices { IsKept self.old.notices self.new.notices }
         ensures end { (h : History) → ClosingStands inventory.now jobs.now h self.old → Stands inventory.now jobs.now h
             → IsHistory (h ▷ ended_by boot moment) → AreCurrent (slots inventory.now) h cells.now
             → IfOk result (IsEnd inventory.now jobs.now h boot moment self.new) }
     {
         let booking = self.closer.book(alloc, jobs, cells, moment, boot)?;
         let files = due_files(alloc, inventory, jobs, &self.closer, booking.reports())?;
+        let from = self.closer.tick();
+        let crossings = booking.crossings();
+        let notices = self
+            .notices
+            .prepare(alloc, inventory, jobs, from, &files, crossings)?;
         self.files.reserve(files.len())?;
-        Ok(Ended { booking, files })
+        self.notices.reserve(notices.as_slice().len())?;
+        Ok(Ended {
+            booking,
+            files,
+            notices,
+        })
     }
 
     /// The entry at this moment has come: ends what it ends. It takes no memory.
@@ -84,11 +99,13 @@ impl Closing {
             → IsHistory (h ▷ ended_by boot moment) → IsEnd inventory jobs h boot moment self.old ended
             → ClosingStands inventory jobs (h ▷ ended_by boot moment) self.new }
         ensures tick { closer_tick self.new.closer ≡ tick_of moment }
+        ensures total { self.old.notices.total ≤ self.new.notices.total }
         ensures wide { self.new.closer.cells.slots ≡ self.old.closer.cells.slots }
         ensures paired { (jobs : JobsState) → ArePaired jobs self.old.closer → ArePaired jobs self.new.closer }
     {
         self.closer.enact(ended.booking);
         self.files.step(moment, ended.files);
+        self.notices.step(moment, ended.notices);
     }
 }
 

@@ -10,9 +10,11 @@ mod opening;
 mod replies;
 mod report_files;
 mod state;
+mod subscribing;
 
 pub use booked::first_item;
 pub use change::{Change, plan_change, show};
 pub use opening::{MOST_GAP, Prepared};
 pub use replies::{no_memory, ok, refused, refused_at, status_of};
 pub use state::State;
+pub use subscribing::SubChange;

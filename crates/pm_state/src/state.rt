@@ -1,5 +1,5 @@
 //! What a producer keeps of its history.
-ghost use Rattle.std.specs.Prelude.{◌≡◌, ◌≤◌, ◌<◌, ◌+◌, [], length, IfOk};
+ghost use Rattle.std.specs.Prelude.{◌≡◌, ◌≤◌, ◌<◌, ◌+◌, ◌++◌, [], true, length, IfOk};
 ghost use Rattle.pm_base.specs.Moment.{IsMoment, tick_of};
 ghost use Rattle.pm_base.specs.declared.moment.TheConstants.{LAST_MOMENT};
 ghost use Rattle.pm_batch.specs.declared.batch.TheConstants.{MOST_BODY};
@@ -7,6 +7,9 @@ ghost use Rattle.pm_close.specs.Closer.{ArePaired, closer_tick};
 ghost use Rattle.pm_history.specs.declared.entry.Entry.TheVariants.{Boot};
 ghost use Rattle.pm_history.specs.History.{History, Start, ◌▷◌};
 ghost use Rattle.pm_inventory.specs.Inventory.{slots};
+ghost use Rattle.pm_notice.specs.Planned.{subscriptions_of, IsPlanOf};
+ghost use Rattle.pm_notice.specs.Round.{are_within};
+ghost use Rattle.pm_outside.specs.Causes.{faults_after};
 ghost use Rattle.pm_state.specs.declared.opening.TheConstants.{MOST_GAP};
 
 use crate::booked::{booked_bytes, boot_bytes};
@@ -15,22 +18,26 @@ use crate::closing::{Closing, Ended, begun};
 use crate::files::{list_files, show_file};
 use crate::opening::{MOST_GAP, Prepared};
 use crate::replies::{accepted, no_memory, refused_at};
+use crate::subscribing::{SubChange, cursors, sub_change};
 use pm_base::tick;
 use pm_batch::{BatchError, OpenEvents};
 use pm_history::Side;
 use pm_http::Reply;
 use pm_inventory::Inventory;
 use pm_jobs::{Ask, Jobs};
+use pm_notice::{SubAsk, Subscriptions};
+use pm_outside::Courier;
 use std::alloc::{AllocError, Global};
 
-/// The state of a producer: its inventory, the moment of its last request, its jobs and monitors, the events of the open tick, and
-/// what ends with it.
+/// The state of a producer: its inventory, the moment of its last request, its jobs and monitors, its subscriptions, the events of the
+/// open tick, and what ends with it.
 #[derive(Drop)]
 pub struct State {
     alloc: Global,
     inventory: Inventory,
     last: u64,
     jobs: Jobs,
+    subs: Subscriptions,
     events: OpenEvents,
     closing: Closing,
     ghost in_range: { last ≤ LAST_MOMENT },
@@ -38,6 +45,7 @@ pub struct State {
     ghost of_slots: { length events.slots ≡ length (slots inventory) },
     ghost tick: { closer_tick closing.closer ≡ tick_of last },
     ghost paired: { ArePaired jobs closing.closer },
+    ghost within: { are_within closing.notices.total (subscriptions_of subs) ≡ true },
 }
 
 impl State {
@@ -53,15 +61,20 @@ impl State {
     ghost use Rattle.pm_state.specs.Changes.{change_given, look_given};
     ghost use Rattle.pm_state.specs.FilesGiven.{Shows, IsListGiven, IsFileGiven};
     ghost use Rattle.pm_state.specs.Planned.{IsAnswer, IsChange, IsLook};
+    ghost use Rattle.pm_state.specs.SubsGiven.{IsSubAnswer, BeginsWithin, sub_entries};
+    ghost use Rattle.pm_notice.specs.Plan.{plan_to_make, plan_to_remove, enacted};
+    ghost use Rattle.pm_notice.specs.Round.{AreRounds, rounds_posts, stops, faults_after_stops};
 
     /// That of a history that begins with a Boot at this moment.
     pub fn new(alloc: Global, inventory: Inventory, moment: u64) -> Result<State, AllocError>
         requires { IsMoment moment }
         ensures stands { IfOk result (StateStands (Start ▷ Boot moment)) }
         ensures inventory { IfOk result (λ state. state.inventory ≡ inventory) }
+        ensures subs { IfOk result (λ state. subscriptions_of state.subs ≡ []) }
     {
         let mut events = OpenEvents::new(alloc, &inventory)?;
         let jobs = Jobs::new(alloc);
+        let subs = Subscriptions::new(alloc);
         let closing = begun(alloc, &inventory, &jobs, events.cells(), moment)?;
         events.clear();
         Ok(State {
@@ -69,6 +82,7 @@ impl State {
             inventory,
             last: moment,
             jobs,
+            subs,
             events,
             closing,
         })
@@ -88,6 +102,7 @@ impl State {
         requires after { boot ≡ false → tick_of self.old.last < tick_of moment }
         ensures stays { (h : History) → StateStands h self.old → StateStands h self.new }
         ensures inventory { self.new.inventory ≡ self.old.inventory }
+        ensures subs { self.new.subs ≡ self.old.subs }
         ensures last { self.new.last ≡ self.old.last }
         ensures may { IfOk result (MayEnact self.new.closing (tick_of moment)) }
         ensures end { (h : History) → StateStands h self.old → IsHistory (h ▷ ended_by boot moment)
@@ -110,6 +125,7 @@ impl State {
         requires far { self.old.last + MOST_GAP < moment }
         ensures stays { (h : History) → StateStands h self.old → StateStands h self.new }
         ensures inventory { self.new.inventory ≡ self.old.inventory }
+        ensures subs { self.new.subs ≡ self.old.subs }
         ensures last { self.new.last ≡ self.old.last }
         ensures may { IfOk result (MayEnter self.new) }
         ensures prepared { (h : History) → StateStands h self.old → IfOk result (IsOpening self.new h moment) }
@@ -131,11 +147,14 @@ impl State {
         requires after { tick_of self.old.last < tick_of moment }
         ensures stays { (h : History) → StateStands h self.old → StateStands h self.new }
         ensures inventory { self.new.inventory ≡ self.old.inventory }
+        ensures subs { self.new.subs ≡ self.old.subs }
         ensures last { self.new.last ≡ self.old.last }
         ensures may { IfOk result (MayEnter self.new) }
         ensures prepared { (h : History) → StateStands h self.old → IfOk result (IsOpening self.new h moment) }
     {
-        let item = booked_bytes(self.alloc, moment, tick(self.last), self.events.cells())?;
+        let cursors = cursors(self.alloc, &self.subs)?;
+        let cells = self.events.cells();
+        let item = booked_bytes(self.alloc, moment, tick(self.last), cells, cursors)?;
         let ended = self.end(moment, false)?;
         Ok(Prepared {
             moment,
@@ -149,6 +168,7 @@ impl State {
         requires { IsMoment moment }
         ensures stays { (h : History) → StateStands h self.old → StateStands h self.new }
         ensures inventory { self.new.inventory ≡ self.old.inventory }
+        ensures subs { self.new.subs ≡ self.old.subs }
         ensures last { self.new.last ≡ self.old.last }
         ensures may { IfOk result (MayEnter self.new) }
         ensures prepared { (h : History) → StateStands h self.old → IfOk result (IsPrepared self.new h moment) }
@@ -172,6 +192,7 @@ impl State {
         requires { MayEnter self.old prepared }
         ensures stands { (h : History) (moment : ℕ) → StateStands h self.old → IsPrepared self.old h moment prepared → StateStands (entered h moment) self.new }
         ensures inventory { self.new.inventory ≡ self.old.inventory }
+        ensures subs { self.new.subs ≡ self.old.subs }
     {
         let moment = prepared.moment;
         let ended = prepared.ended;
@@ -208,6 +229,7 @@ impl State {
             → IsChange self.old.inventory self.old.jobs self.old.closing.closer self.old.last given change
             → (result ≡ given.reply) × StateStands (grown h given.entries) self.new }
         ensures inventory { self.new.inventory ≡ self.old.inventory }
+        ensures subs { self.new.subs ≡ self.old.subs }
         ensures last { self.new.last ≡ self.old.last }
     {
         let made = change.made;
@@ -239,11 +261,74 @@ impl State {
         show_file(self.alloc, &self.closing.files, name)
     }
 
+    /// What a request for a subscription comes to: a new one begins at the number of notices. What the state stands for stays.
+    pub fn subscribe(&mut self, id: &[u8], body: &[u8]) -> Result<SubChange, Reply>
+        ensures stays { (h : History) → StateStands h self.old → StateStands h self.new }
+        ensures answer { IsSubAnswer (subscriptions_of self.old.subs) self.new.subs self.old.last id.now
+            (plan_to_make (subscriptions_of self.old.subs) id.now body.now self.old.closing.notices.total) result }
+        ensures begins { IfOk result (λ change. BeginsWithin self.new.closing.notices.total change.plan) }
+        ensures subs { subscriptions_of self.new.subs ≡ subscriptions_of self.old.subs }
+        ensures inventory { self.new.inventory ≡ self.old.inventory }
+        ensures last { self.new.last ≡ self.old.last }
+    {
+        let cursor = self.closing.notices.total();
+        let plan = self.subs.plan(&SubAsk::Make { id, body, cursor });
+        sub_change(self.alloc, &self.subs, self.last, id, plan)
+    }
+
+    /// What a request to end a subscription comes to. What the state stands for stays.
+    pub fn unsubscribe(&mut self, id: &[u8]) -> Result<SubChange, Reply>
+        ensures stays { (h : History) → StateStands h self.old → StateStands h self.new }
+        ensures answer { IsSubAnswer (subscriptions_of self.old.subs) self.new.subs self.old.last id.now
+            (plan_to_remove (subscriptions_of self.old.subs) id.now) result }
+        ensures begins { IfOk result (λ change. BeginsWithin self.new.closing.notices.total change.plan) }
+        ensures subs { subscriptions_of self.new.subs ≡ subscriptions_of self.old.subs }
+        ensures inventory { self.new.inventory ≡ self.old.inventory }
+        ensures last { self.new.last ≡ self.old.last }
+    {
+        let plan = self.subs.plan(&SubAsk::Remove { id });
+        sub_change(self.alloc, &self.subs, self.last, id, plan)
+    }
+
+    /// Does what a change of the subscriptions says. It takes no memory.
+    pub fn enact_subscription(&mut self, change: SubChange) -> Reply
+        requires fits { IsPlanOf self.old.subs change.plan }
+        requires begins { BeginsWithin self.old.closing.notices.total change.plan }
+        ensures reply { result ≡ change.reply }
+        ensures stands { (h : History) → StateStands h self.old
+            → StateStands (grown h (sub_entries (subscriptions_of self.old.subs) self.old.last change.plan)) self.new }
+        ensures subs { subscriptions_of self.new.subs ≡ enacted change.plan (subscriptions_of self.old.subs) }
+        ensures inventory { self.new.inventory ≡ self.old.inventory }
+        ensures last { self.new.last ≡ self.old.last }
+    {
+        let _done = self.subs.enact(change.plan);
+        change.reply
+    }
+
+    /// Posts the notices that are due: one round for each subscription. It takes no memory.
+    pub fn deliver<P: Courier>(&mut self, courier: &mut P)
+        ensures stays { (h : History) → StateStands h self.old → StateStands h self.new }
+        ensures rounds { AreRounds self.old.closing.notices.kept self.old.closing.notices.total self.old.last
+            (subscriptions_of self.old.subs) (subscriptions_of self.new.subs) }
+        ensures posted { P.IsTold → P.posts courier.new ≡ P.posts courier.old
+            ++ rounds_posts self.old.closing.notices.kept self.old.last (subscriptions_of self.old.subs) (subscriptions_of self.new.subs) }
+        ensures counted { P.faults courier.new
+            ≡ faults_after_stops (stops self.old.closing.notices.total (subscriptions_of self.new.subs)) (P.faults courier.old) }
+        ensures closing { self.new.closing ≡ self.old.closing }
+        ensures inventory { self.new.inventory ≡ self.old.inventory }
+        ensures last { self.new.last ≡ self.old.last }
+    {
+        let total = self.closing.notices.total();
+        let notices = self.closing.notices.as_slice();
+        self.subs.deliver(notices, total, self.last, courier);
+    }
+
     /// Counts a batch of events, where it is accepted.
     pub fn take_events(&mut self, body: &[u8]) -> Reply
         requires { length body.now ≤ MOST_BODY }
         ensures stands { (h : History) → StateStands h self.old → GivesEvents self.old.inventory h body.now result self.new }
         ensures inventory { self.new.inventory ≡ self.old.inventory }
+        ensures subs { self.new.subs ≡ self.old.subs }
         ensures last { self.new.last ≡ self.old.last }
     {
         match self.events.read(body) {

@@ -33,7 +33,7 @@ if-err P (Err e) p = p
 
 pub cut-off : {E : Type 0} (inventory : InventoryState) (moment : ℕ) (request : Request) (run : Run) (old new : Told) (r : Result Reply E)
     → moment_asked request.moment (last_moment run.history) ≡ Some moment
-    → (most : History) × IsMost inventory moment request run.history most × Throughout (EachBetween inventory (kept run.settled) (kept most)) old new
+    → (most : History) × IsMost inventory moment request run.history run.cursors most × Throughout (EachBetween inventory (kept run.settled) (kept most)) old new
     → IfErr r (λ _. IsCutOff inventory request run new.now)
 cut-off inventory moment request run old new r asked during =
     if-err (IsCutOff inventory request run new.now) r (record {

@@ -11,6 +11,7 @@ use Rattle.pm_http.specs.declared.request.Request.{Request}
 use Rattle.pm_state.specs.Opening.{opening, entered}
 use Rattle.pm_engine.specs.Bears.{Run, settled_at}
 use Rattle.pm_engine.specs.Turn.{reached}
+use Rattle.pm_notice.specs.StandFor.{cursors_of}
 use Rattle.pm_top.specs.SessionTurn.{Turned, Runs, IsTurned, IsAnswered, moment_asked}
 
 grown-grown : (h : History) (xs ys : List Entry) → grown (grown h xs) ys ≡ grown h (xs ++ ys)
@@ -33,7 +34,8 @@ kept-begins h (e ∷ es) is =
 record Grew (old new : Run) : Type 0 where
   settled : old.settled ≡ old.history
   es : List Entry
-  is : new ≡ settled_at (grown old.history es)
+  cursors : List ℕ
+  is : new ≡ settled_at (grown old.history es) cursors
 
 reached-grows : (h : History) (moment : ℕ) (b : Bool) → (es : List Entry) × ((if b then entered h moment else h) ≡ grown h es)
 reached-grows h moment true = (opening h moment ∷ [], refl)
@@ -42,23 +44,31 @@ reached-grows h moment false = ([], refl)
 answered-grows : (inventory : InventoryState) (o : Option ℕ) (request : Request) (run : Run) (reply : Reply) (next : Run) → run.settled ≡ run.history
     → IsAnswered inventory o request run reply next → Grew run next
 answered-grows inventory None request run reply next settled is =
-    record { settled = settled; es = []; is = is.1 ∙ same run settled }
+    record { settled = settled; es = []; cursors = run.cursors; is = is.1 ∙ same run settled }
   where
-    same : (run : Run) → run.settled ≡ run.history → run ≡ settled_at run.history
-    same run settled = ap (λ s. record { history = run.history; settled = s }) settled
+    same : (run : Run) → run.settled ≡ run.history → run ≡ settled_at run.history run.cursors
+    same run settled = ap (λ s. record { history = run.history; settled = s; cursors = run.cursors }) settled
 answered-grows inventory (Some moment) request run reply next settled (inl given) =
-    record { settled = settled; es = opening run.history moment ∷ given.given.entries; is = given.next_is }
+    record { settled = settled; es = opening run.history moment ∷ given.given.entries; cursors = given.cursors; is = given.next_is }
 answered-grows inventory (Some moment) request run reply next settled (inr none) = elim none.next_is [
-  | inl same ↦ record { settled = settled; es = []; is = same }
+  | inl same ↦ record { settled = settled; es = []; cursors = run.cursors; is = same }
   | inr more ↦
       let by = reached-grows run.history moment (nat_lt (last_moment run.history) moment) in
-      record { settled = settled; es = by.0; is = more ∙ ap settled_at by.1 }
+      record { settled = settled; es = by.0; cursors = run.cursors; is = more ∙ ap (λ h. settled_at h run.cursors) by.1 }
 ]
 
 turned-grows : (inventory : InventoryState) (run : Run) (turned : Turned) (next : Run) → run.settled ≡ run.history → IsTurned inventory run turned next
     → Grew run next
 turned-grows inventory run turned next settled is =
-    answered-grows inventory (moment_asked turned.request.moment (last_moment run.history)) turned.request run turned.reply next settled is.answered
+    let grew = answered-grows inventory (moment_asked turned.request.moment (last_moment run.history)) turned.request run turned.reply is.mid settled
+    is.replied.answered in
+    let cursors = cursors_of is.served.news in
+    record {
+      settled = settled;
+      es = grew.es;
+      cursors = cursors;
+      is = is.served.next_is ∙ ap (λ (r : Run). record { history = r.history; settled = r.settled; cursors = cursors }) grew.is;
+    }
 
 settles : (old new : Run) → Grew old new → new.settled ≡ new.history
 settles old new grew = ap (λ r. r.settled) grew.is ∙ sym (ap (λ r. r.history) grew.is)

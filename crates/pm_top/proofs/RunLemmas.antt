@@ -11,17 +11,19 @@ use Rattle.pm_tally.specs.Outcome.{Output, Gains}
 use Rattle.pm_engine.specs.declared.error.OpenError.{OpenError}
 use Rattle.pm_top.specs.declared.status.Status.{Status}
 use Rattle.pm_top.specs.Ends.{status_of_opening}
+use Rattle.pm_top.specs.Session.{Mail, Sends}
 use Rattle.pm_top.specs.Run.{device_of, IsUnopened}
 
 -- The store wasn't opened.
-pub unopened : (inventory : InventoryState) (boot : ℕ) (output : Output) (IsTold : Type 0) (old new : Told) (error : OpenError) (status : Status)
-    → status ≡ status_of_opening error → Gains output []
+pub unopened : (inventory : InventoryState) (boot : ℕ) (output : Output) (mail : Mail) (IsTold : Type 0) (old new : Told) (error : OpenError) (status : Status)
+    → status ≡ status_of_opening error → Gains output [] → Sends mail [] 0
     → (IsTold → EachBetween inventory Start Start old.now → Throughout (EachBetween inventory Start (Start ▷ Boot boot)) old new)
-    → IsUnopened inventory boot output (device_of IsTold old new) status
-unopened inventory boot output IsTold old new error status is gains moments = record {
+    → IsUnopened inventory boot output mail (device_of IsTold old new) status
+unopened inventory boot output mail IsTold old new error status is gains sends moments = record {
   error = error;
   status_is = is;
   gains = gains;
+  sends = sends;
   holds = λ told empty. at_end (EachBetween inventory Start (Start ▷ Boot boot)) old new (moments told empty);
 }
 

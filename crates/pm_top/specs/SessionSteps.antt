@@ -6,34 +6,36 @@ use Rattle.pm_http.specs.declared.request.Request.{Request}
 use Rattle.pm_tally.specs.Outcome.{Output, Gains, GainsPrefix}
 use Rattle.pm_engine.specs.Bears.{Run}
 use Rattle.pm_top.specs.SessionTurn.{Turned, text_of}
-use Rattle.pm_top.specs.Session.{Input, Store, Reads, IsAnsweredBy, EndsSession, IsSoFar}
+use Rattle.pm_top.specs.Session.{Input, Mail, Sends, Store, Reads, IsAnsweredBy, EndsSession, IsSoFar}
 use Rattle.pm_top.specs.declared.session_end.SessionEnd.{SessionEnd}
 use Rattle.pm_top.specs.declared.session_end.SessionEnd.TheVariants.{Framing, WriteFault}
 
--- The session goes on after a request: its reply is written whole, and the run after it is carried.
-pub record GoesOn (inventory : InventoryState) (output : Output) (IsCarried : Run → Type 0) (run : Run) (request : Request) : Type 0 where
+-- The session goes on after a request: its reply is written whole, its rounds are made, and the run after them is carried.
+pub record GoesOn (inventory : InventoryState) (output : Output) (mail : Mail) (IsCarried : Run → Type 0) (run : Run) (request : Request) : Type 0 where
   pub by : IsAnsweredBy inventory run request
   pub on : request.close ≡ false
   pub gains : Gains output (text_of by.turned)
+  pub sends : Sends mail by.turned.posts by.turned.short
   pub carried : IsCarried by.next
 
 -- The next request was read, and the session goes on after it.
-pub record GoesOnBy (inventory : InventoryState) (input : Input) (output : Output) (IsCarried : Run → Type 0) (run : Run) : Type 0 where
+pub record GoesOnBy (inventory : InventoryState) (input : Input) (output : Output) (mail : Mail) (IsCarried : Run → Type 0) (run : Run) : Type 0 where
   pub request : Request
   pub reads : Reads input request
-  pub on : GoesOn inventory output IsCarried run request
+  pub on : GoesOn inventory output mail IsCarried run request
 
 -- Turns were made from a run to one that is carried.
-pub record HasTurned (inventory : InventoryState) (input : Input) (output : Output) (IsCarried : Run → Type 0) (run : Run) (given : ℕ) : Type 0 where
+pub record HasTurned (inventory : InventoryState) (input : Input) (output : Output) (mail : Mail) (IsCarried : Run → Type 0) (run : Run) (given : ℕ)
+    : Type 0 where
   pub turns : List Turned
   pub now : Run
-  pub so_far : IsSoFar inventory input output run turns now given
+  pub so_far : IsSoFar inventory input output mail run turns now given
   pub carried : IsCarried now
 
 -- One turn more, or the end.
-abbrev pub TakesTurn : InventoryState → ℕ → Input → Output → Store → (Run → Type 0) → Run → Option SessionEnd → Type 0
-TakesTurn inventory start input output store IsCarried run None = GoesOnBy inventory input output IsCarried run
-TakesTurn inventory start input output store IsCarried run (Some end) = EndsSession inventory start input output store run end
+abbrev pub TakesTurn : InventoryState → ℕ → Input → Output → Mail → Store → (Run → Type 0) → Run → Option SessionEnd → Type 0
+TakesTurn inventory start input output mail store IsCarried run None = GoesOnBy inventory input output mail IsCarried run
+TakesTurn inventory start input output mail store IsCarried run (Some end) = EndsSession inventory start input output mail store run end
 
 -- A request is refused by how it is framed: the reply is written whole, or not.
 abbrev pub RefusesFraming : Output → Code → ℕ → List ℕ → SessionEnd → Type 0

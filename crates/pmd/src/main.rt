@@ -5,6 +5,7 @@ mod store_file;
 mod streams;
 mod words;
 
+use pm_courier::HttpCourier;
 use pm_top::{Status, pmd};
 use std::io;
 use std::process::ExitCode;
@@ -21,6 +22,7 @@ fn main(rt: HostRuntime) -> ExitCode {
             &mut Reading::new(rt.reader()),
             &mut Writing::new(io::writer(&rt)),
             &mut disk,
+            &mut HttpCourier::new(&rt),
         ),
         Err(status) => status,
     };

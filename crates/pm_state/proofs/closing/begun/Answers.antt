@@ -19,4 +19,4 @@ returns-clause-stands c = λ current.
     (record { of_jobs = record { listed = refl; each = tt }; of_monitors = record { listed = refl; each = tt } }) in
     let end = c.in_ok-ended.ensures.end Start stand stands is current in
     c.enact.ensures.stands inventory jobs Start true
-    (closing-same inventory jobs Start c.in_ok-closing.closing c.end.new.self c.end.ensures.closer c.end.ensures.files stand) is end
+    (closing-same inventory jobs Start c.in_ok-closing.closing c.end.new.self c.end.ensures.closer c.end.ensures.files c.end.ensures.notices stand) is end

@@ -1,4 +1,5 @@
-use Rattle.std.proofs.Common.{◌≡◌, ℕ, List, refl, sym, subst}
+use Rattle.std.proofs.Common.{◌≡◌, ℕ, List, refl, sym, ap, subst}
+use Rattle.pm_notice.specs.StandFor.{cursors_of}
 use Rattle.pm_disk.proofs.MomentLemmas.{at_rest}
 use Rattle.pm_inventory.specs.Inventory.{InventoryState}
 use Rattle.pm_history.specs.declared.entry.Entry.TheVariants.{Boot}
@@ -32,6 +33,7 @@ pub returns-in-Ok-clause-carries : goal.returns-in-Ok-clause-carries
 returns-in-Ok-clause-carries g c = record {
   bears = record {
     stands = c.in_ok-state.ensures.stands;
+    served = ap cursors_of c.in_ok-state.ensures.subs;
     store = λ told.
         subst (λ (i : InventoryState). IsLedgerOf i c.in-Ok.ledger (g.D.Disk.told c.open_begun.new.disk).now (Start ▷ Boot c.args.boot)) (sym c.in_ok-state.ensures.inventory)
         (c.in-Ok.ensures.begun told c.args.inventory (Boot c.args.boot) (adds c.args.inventory c.args.boot _ _ c.as_bytes.ensures c.in_ok-item.ensures));

@@ -15,4 +15,5 @@ returns-clause-stands c = λ inventory jobs h boot stand is end.
           subst (λ (b : Bool). CloserStands inventory jobs (h ▷ ended_by b m) c.enact.new.self) end.boot_is
           (c.enact.ensures.stands inventory jobs h m stand.closer (subst (λ (b : Bool). IsHistory (h ▷ ended_by b m)) (sym end.boot_is) is) end.booking);
       files = c.step.ensures.stands inventory h (ended_by boot m) end.files.added later at end.files.adds end.files.are stand.files;
+      notices = c.step-2.ensures.stands inventory h (ended_by boot m) later at end.notices stand.notices;
     }

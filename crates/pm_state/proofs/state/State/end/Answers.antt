@@ -15,9 +15,10 @@ returns-clause-stays c = λ h stands.
       begun = stands.begun;
       last = stands.last;
       jobs = stands.jobs;
+      subs = stands.subs;
       events = stands.events;
       only = stands.only;
-      closing = closing-same self.inventory self.jobs h self.closing c.end.new.self c.end.ensures.closer c.end.ensures.files stands.closing;
+      closing = closing-same self.inventory self.jobs h self.closing c.end.new.self c.end.ensures.closer c.end.ensures.files c.end.ensures.notices stands.closing;
     }
 
 pub returns-clause-end : goal.returns-clause-end

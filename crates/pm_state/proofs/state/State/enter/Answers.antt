@@ -6,8 +6,15 @@ use Rattle.pm_state.specs.Opening.{is_boot, moment_after, opening}
 use Rattle.pm_state.proofs.ClosingLemmas.{closing-unstored, ended-is}
 use Rattle.pm_state.proofs.OnlyLemmas.{only-ended}
 use Rattle.pm_state.proofs.OpeningLemmas.{ends-none, ends-some, none-unstored, closing-entered}
+use Rattle.pm_notice.specs.Planned.{subscriptions_of}
+use Rattle.pm_state.proofs.SubsLemmas.{subs-opening}
+use Rattle.pm_state.proofs.WithinLemmas.{within-more}
 use Rattle.pm_state.proofs.StateLemmas.{opening-jobs, opening-moment, adds-history, opening-goes-on}
 use Rattle.pm_state.proofs.state.State.enter.Goals as goal
+
+pub invariant_of-self-clause-within : goal.invariant_of-self-clause-within
+invariant_of-self-clause-within c =
+    within-more (subscriptions_of c.args.self.now.subs) _ _ c.enact.ensures.total c.args.self.now.within
 
 pub returns-clause-stands : goal.returns-clause-stands
 returns-clause-stands c = λ h moment stands prepared.
@@ -20,6 +27,7 @@ returns-clause-stands c = λ h moment stands prepared.
       begun = omega arith;
       last = prepared.at ∙ sym (opening-moment (last_moment h) at);
       jobs = opening-jobs self.inventory self.jobs h (last_moment h) at stands.jobs;
+      subs = subs-opening (subscriptions_of self.subs) h _ (last_moment h) at stands.subs;
       events = on.0;
       only = on.1;
       closing =
@@ -41,6 +49,7 @@ returns-in-Some-clause-stands c = λ h moment stands prepared.
       begun = omega arith;
       last = prepared.at ∙ sym (opening-moment (last_moment h) at);
       jobs = opening-jobs self.inventory self.jobs h (last_moment h) at stands.jobs;
+      subs = subs-opening (subscriptions_of self.subs) h _ (last_moment h) at stands.subs;
       events = c.clear.ensures.stands self.inventory h (opening h moment) (record { slots = stands.events.slots; tick = stands.events.tick.made }) ends.0;
       only = only-ended self.inventory h (opening h moment) ends.0;
       closing =

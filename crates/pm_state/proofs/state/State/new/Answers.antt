@@ -6,7 +6,9 @@ use Rattle.pm_jobs.specs.Stands.{Stands}
 use Rattle.pm_close.specs.Closer.{AreCurrent}
 use Rattle.pm_state.proofs.ClosingLemmas.{current, small}
 use Rattle.pm_state.proofs.OnlyLemmas.{only-ended}
+use Rattle.pm_notice.proofs.StandLemmas.{others_stay}
 use Rattle.pm_state.proofs.StateLemmas.{first-jobs}
+use Rattle.pm_state.proofs.SubsLemmas.{served}
 use Rattle.pm_state.proofs.state.State.new.Goals as goal
 
 pub returns-clause-stands : goal.returns-clause-stands
@@ -18,6 +20,7 @@ returns-clause-stands c =
       begun = omega arith;
       last = refl;
       jobs = subst (λ j. Stands inventory j (Start ▷ Boot c.args.moment)) (sym c.new-jobs.ensures.none) (first-jobs inventory c.args.moment);
+      subs = served _ (Start ▷ Boot c.args.moment) _ (others_stay _ Start _ (Boot c.args.moment) tt c.new-subs.ensures.begins);
       events = c.clear.ensures.stands inventory Start (Boot c.args.moment) (record { slots = made.slots; tick = made.tick.made }) refl;
       only = only-ended inventory Start (Boot c.args.moment) refl;
       closing =

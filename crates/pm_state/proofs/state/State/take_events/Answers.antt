@@ -3,7 +3,9 @@ use Rattle.pm_history.specs.History.{last_moment}
 use Rattle.pm_state.specs.Given.{Given, ok, refused_at}
 use Rattle.pm_state.specs.Step.{accepted_body, events_by, events_given}
 use Rattle.pm_state.proofs.ClosingLemmas.{closing-batch}
+use Rattle.pm_notice.specs.Planned.{subscriptions_of}
 use Rattle.pm_state.proofs.StateLemmas.{taken, read-sound, refused-is}
+use Rattle.pm_state.proofs.SubsLemmas.{subs-unstored}
 use Rattle.pm_state.proofs.state.State.take_events.Goals as goal
 
 pub returns-in-Ok-accepted-clause-stands : goal.returns-in-Ok-accepted-clause-stands
@@ -22,6 +24,7 @@ returns-in-Ok-accepted-clause-stands c = λ h stands.
         begun = takes.on.begun;
         last = takes.on.last;
         jobs = takes.stands;
+        subs = subs-unstored (subscriptions_of self.subs) h _ (events_given self.inventory h c.args.body.now).entries takes.unstored stands.subs;
         events = takes.on.events_stand;
         only = takes.on.only;
         closing = closing-batch self.inventory self.jobs h (events_given self.inventory h c.args.body.now).entries self.closing takes.unstored stands.closing;
@@ -40,6 +43,7 @@ returns-in-Err-Refused-clause-stands c = λ h stands.
         begun = stands.begun;
         last = stands.last;
         jobs = stands.jobs;
+        subs = stands.subs;
         events = read.1;
         only = stands.only;
         closing = stands.closing;
@@ -57,6 +61,7 @@ returns-in-Err-Memory-clause-stands c = λ h stands.
         begun = stands.begun;
         last = stands.last;
         jobs = stands.jobs;
+        subs = stands.subs;
         events = read.1;
         only = stands.only;
         closing = stands.closing;
