@@ -1,29 +1,26 @@
 -- Changes of the subscriptions, and rounds.
-use Rattle.std.proofs.Common.{◌≡◌, ◌≢◌, ◌⊎◌, ◌&&◌, le-leb, inl, inr, ℕ, ◌≤◌, true, List, [], ◌∷◌, ◌++◌, length, Option, Some, None, Result, Ok, Err, MatchOption, refl, sym, ap, ◌∙◌, subst, arith}
+use Rattle.std.proofs.Common.{◌≡◌, ◌≢◌, ◌⊎◌, ◌&&◌, le-leb, inl, inr, ℕ, ◌≤◌, List, [], ◌∷◌, length, Option, Some, None, Result, Ok, MatchOption, refl, sym, ap, ◌∙◌, subst, arith}
 use Rattle.pm_disk.specs.Moments.{Told}
 use Rattle.pm_inventory.specs.Inventory.{InventoryState}
-use Rattle.pm_history.specs.History.{History, grown, last_moment, IsHistory}
+use Rattle.pm_history.specs.History.{History, grown, last_moment}
 use Rattle.pm_items.specs.Items.{kept}
 use Rattle.pm_items.specs.Kept.{IsBeginning}
 use Rattle.pm_http.specs.declared.reply.Reply.{Reply}
-use Rattle.pm_ledger.specs.Ledger.{IsLedgerOf}
 use Rattle.pm_notice.specs.declared.error.SubError.{SubError}
 use Rattle.pm_notice.specs.declared.notice.Notice.{Notice}
 use Rattle.pm_notice.specs.declared.subscription.Subscription.{Subscription}
 use Rattle.pm_notice.specs.declared.subscription.SubPlan.{SubPlan}
-use Rattle.pm_notice.specs.Plan.{plan_to_make, plan_to_remove, code_of}
-use Rattle.pm_notice.specs.Planned.{subscriptions_of}
+use Rattle.pm_notice.specs.Plan.{plan_to_make, plan_to_remove}
 use Rattle.pm_notice.specs.Round.{AreRounds, rounds_posts, stops}
 use Rattle.pm_notice.specs.Rounds.{AreAllRounds, HaveDue, are_from}
 use Rattle.pm_notice.specs.StandFor.{StandFor, cursors_of}
 use Rattle.pm_notify.specs.Kept.{notices_of}
 use Rattle.pm_notify.specs.Notices.{AreNoticesFrom}
 use Rattle.pm_state.specs.declared.state.State.{State}
-use Rattle.pm_state.specs.declared.subscribing.SubChange.{SubChange}
 use Rattle.pm_state.specs.ChangeItem.{AreItemsOf}
-use Rattle.pm_state.specs.Given.{Given, refused, no_memory}
+use Rattle.pm_state.specs.Given.{Given, no_memory}
 use Rattle.pm_state.specs.Stands.{StateStands}
-use Rattle.pm_state.specs.SubsGiven.{IsSubChange, IsSubRefusal, sub_given, sub_cursors, sub_entries, sub_reply}
+use Rattle.pm_state.specs.SubsGiven.{IsSubRefusal, sub_given, sub_cursors, sub_entries, sub_reply}
 use Rattle.pm_state.proofs.StateLemmas.{GoesOn, changes-go-on}
 use Rattle.pm_state.proofs.SubsLemmas.{sub-at}
 use Rattle.pm_engine.specs.declared.engine.Engine.{Engine}

@@ -1,5 +1,5 @@
 -- Subscriptions after each entry, and what their changes leave.
-use Rattle.std.proofs.Common.{◌≡◌, ℕ, zero, suc, ◌+◌, Bool, true, false, cond, ltb, List, [], ◌∷◌, drop, slice_get, Some, None, option_map, refl, sym, ap, ◌∙◌, subst}
+use Rattle.std.proofs.Common.{◌≡◌, ℕ, zero, suc, ◌+◌, Bool, true, false, cond, ltb, List, [], ◌∷◌, drop, slice_get, Some, None, option_map, refl, sym, ap, ◌∙◌}
 use Rattle.std.specs.Prelude.{unwrap_or}
 use Rattle.pm_inventory.specs.Inventory.{InventoryState}
 use Rattle.pm_history.specs.declared.entry.Side.{Side}

@@ -1,5 +1,5 @@
 -- What a request on a subscription is given (TS 28.532; the replies are this project's own).
-use Rattle.std.specs.Prelude.{ℕ, ◌≡◌, ◌≤◌, ◌⊎◌, ◌++◌, List, [], ◌∷◌, codes, decimal, option_map, unwrap_or, Option, Some, None, Result, Ok, Err}
+use Rattle.std.specs.Prelude.{ℕ, ◌≡◌, ◌≤◌, ◌⊎◌, ◌++◌, List, [], ◌∷◌, codes, decimal, option_map, unwrap_or, Result, Ok, Err}
 use Rattle.pm_inventory.specs.Inventory.{InventoryState}
 use Rattle.pm_history.specs.declared.entry.Entry.{Entry}
 use Rattle.pm_history.specs.declared.entry.Entry.TheVariants.{Subscribed, Unsubscribed}

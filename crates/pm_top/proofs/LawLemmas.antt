@@ -1,5 +1,5 @@
 -- What was acknowledged stays.
-use Rattle.std.proofs.Common.{◌≡◌, ◌⊎◌, inl, inr, ℕ, Bool, true, false, List, [], ◌∷◌, ◌++◌, Option, Some, None, nat_lt, if◌then◌else◌, refl, sym, ap, ◌∙◌, subst}
+use Rattle.std.proofs.Common.{◌≡◌, inl, inr, ℕ, Bool, true, false, List, [], ◌∷◌, ◌++◌, Option, Some, None, nat_lt, if◌then◌else◌, refl, sym, ap, ◌∙◌, subst}
 use Rattle.pm_inventory.specs.Inventory.{InventoryState}
 use Rattle.pm_history.specs.declared.entry.Entry.{Entry}
 use Rattle.pm_history.specs.History.{History, ◌▷◌, grown, last_moment, IsHistory}
@@ -10,7 +10,6 @@ use Rattle.pm_http.specs.declared.reply.Reply.{Reply}
 use Rattle.pm_http.specs.declared.request.Request.{Request}
 use Rattle.pm_state.specs.Opening.{opening, entered}
 use Rattle.pm_engine.specs.Bears.{Run, settled_at}
-use Rattle.pm_engine.specs.Turn.{reached}
 use Rattle.pm_notice.specs.StandFor.{cursors_of}
 use Rattle.pm_top.specs.SessionTurn.{Turned, Runs, IsTurned, IsAnswered, moment_asked}
 

@@ -1,5 +1,5 @@
 -- A run, from its parts.
-use Rattle.std.proofs.Common.{◌≡◌, ℕ, Bool, false, List, [], ◌++◌, Result, Ok, Err, refl, sym, ap, ◌∙◌, subst}
+use Rattle.std.proofs.Common.{◌≡◌, ℕ, Bool, [], sym, ap, ◌∙◌}
 use Rattle.pm_outside.specs.Causes.{faults_after}
 use Rattle.pm_disk.specs.Moments.{Told, Throughout}
 use Rattle.pm_disk.proofs.MomentLemmas.{at_end}

@@ -1,12 +1,11 @@
 -- A session, from its parts.
-use Rattle.std.proofs.Common.{◌≡◌, ◌+◌, ◌<◌, ◌⊎◌, inl, inr, ℕ, zero, suc, Bool, true, false, List, [], ◌∷◌, ◌++◌, length, codes, Option, Some, None, MatchOption, IfNone, Err, refl, sym, ap, ◌∙◌, subst, arith, append_assoc, append-nil, length-append}
+use Rattle.std.proofs.Common.{◌≡◌, ◌+◌, ◌<◌, inl, inr, ℕ, zero, suc, true, false, List, [], ◌∷◌, ◌++◌, length, Option, Some, None, MatchOption, IfNone, Err, refl, sym, ap, ◌∙◌, subst, arith, append_assoc, append-nil, length-append}
 use Rattle.httparse.specs.Grammar.{RequestHead, print_request}
 use Rattle.pm_base.specs.declared.code.Code.{Code}
 use Rattle.pm_outside.specs.Causes.{faults_after}
 use Rattle.pm_outside.specs.Posts.{Post}
 use Rattle.pm_disk.specs.Moments.{Told}
 use Rattle.pm_inventory.specs.Inventory.{InventoryState}
-use Rattle.pm_history.specs.History.{last_moment}
 use Rattle.pm_items.specs.Items.{kept}
 use Rattle.pm_ledger.specs.Between.{EachBetween}
 use Rattle.pm_ledger.specs.Ledger.{IsLedgerOf, IsReady, IsTied}
@@ -48,8 +47,12 @@ pub unsent : (IsTold : Type 0) (posts : List Post) (failed : ℕ) → Sends (mai
 unsent IsTold posts failed = (λ _. sym (append-nil posts), refl)
 
 stops-add : (m n failed : ℕ) → faults_after_stops (m + n) failed ≡ faults_after_stops m (faults_after_stops n failed)
-stops-add zero n failed = refl
-stops-add (suc m) n failed = ap (faults_after true) (stops-add m n failed)
+stops-add zero n failed =
+    let same : 0 + n ≡ n = omega arith in
+    ap (λ k. faults_after_stops k failed) same
+stops-add (suc m) n failed =
+    let same : suc m + n ≡ suc (m + n) = omega arith in
+    ap (λ k. faults_after_stops k failed) same ∙ ap (faults_after true) (stops-add m n failed)
 
 -- One after the other.
 sent-more : (IsTold : Type 0) (a b c : List Post) (f g h : ℕ) (ps qs : List Post) (m n : ℕ) → Sends (mail_of IsTold a b f g) ps m

@@ -1,8 +1,7 @@
 -- The requests of turns, as a stream.
-use Rattle.std.proofs.Common.{◌≡◌, ◌+◌, ◌-◌, ◌≤◌, ℕ, Bool, false, List, [], ◌∷◌, length, Option, None, sym, ap, subst, arith}
+use Rattle.std.proofs.Common.{◌≡◌, ◌+◌, ◌-◌, ◌≤◌, ℕ, List, [], ◌∷◌, length, Option, None, sym, subst, arith}
 use Rattle.pm_http.specs.declared.request.Request.{Request}
 use Rattle.pm_http.specs.declared.next.Next.{Next}
-use Rattle.pm_http.specs.Stream.{IsFirst}
 use Rattle.pm_http.specs.StreamLaw.{IsStream, Either}
 use Rattle.pm_top.specs.SessionTurn.{Turned, AreOpen, Asks}
 use Rattle.pm_top.specs.SessionLaw.{requests_of}

@@ -11,7 +11,7 @@ use Rattle.pm_tally.specs.declared.tally_end.TallyEnd.TheVariants as tally
 use Rattle.pm_top.specs.declared.session_end.SessionEnd.{SessionEnd}
 use Rattle.pm_top.specs.declared.session_end.SessionEnd.TheVariants as session
 use Rattle.pm_top.specs.declared.status.Status.{Status}
-use Rattle.pm_top.specs.declared.status.Status.TheVariants.{Done, Usage, BadInput, ReadFault, WriteFault, StoreFault, Foreign, Garbled, StoreFull, BadInventory, Memory}
+use Rattle.pm_top.specs.declared.status.Status.TheVariants.{Done, BadInput, ReadFault, WriteFault, StoreFault, Foreign, Garbled, StoreFull, BadInventory, Memory}
 
 -- The status of a tally's end.
 abbrev pub status_of_tally : TallyEnd → Status

@@ -1,5 +1,5 @@
 -- What `run` does: an inventory, the opening of a store that has no items yet, and a session (this project's own).
-use Rattle.std.specs.Prelude.{ℕ, ◌≡◌, ◌+◌, ◌≤◌, ◌⊎◌, List, [], ◌++◌, length, Result, Ok, Err}
+use Rattle.std.specs.Prelude.{ℕ, ◌≡◌, ◌+◌, ◌≤◌, ◌⊎◌, List, [], ◌++◌, length, Err}
 use Rattle.pm_base.specs.Lines.{HasNoLine}
 use Rattle.pm_outside.specs.Feed.{MOST_AHEAD}
 use Rattle.pm_outside.specs.declared.feed.TheConstants.{MOST_READ}

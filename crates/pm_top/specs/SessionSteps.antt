@@ -1,5 +1,5 @@
 -- A session, turn by turn.
-use Rattle.std.specs.Prelude.{ℕ, ◌≡◌, Bool, true, false, List, Option, Some, None}
+use Rattle.std.specs.Prelude.{ℕ, ◌≡◌, Bool, false, List, Option, Some, None}
 use Rattle.pm_base.specs.declared.code.Code.{Code}
 use Rattle.pm_inventory.specs.Inventory.{InventoryState}
 use Rattle.pm_http.specs.declared.request.Request.{Request}

@@ -1,7 +1,6 @@
-use Rattle.std.proofs.Common.{◌≡◌, ◌++◌, drop}
+use Rattle.std.proofs.Common.{◌≡◌, drop}
 use Rattle.pm_notice.specs.Plan.{subscription_under}
 use Rattle.pm_notice.specs.Planned.{subscriptions_of}
-use Rattle.pm_notice.specs.StandFor.{cursors_of}
 use Rattle.pm_state.proofs.subscribing.cursor_under.Given as goal
 
 abbrev pub invariant-loop-place : goal.invariant-loop-place

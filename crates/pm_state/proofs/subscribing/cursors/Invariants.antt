@@ -1,5 +1,4 @@
 use Rattle.std.proofs.Common.{◌≡◌, ◌++◌, drop}
-use Rattle.pm_notice.specs.Plan.{subscription_under}
 use Rattle.pm_notice.specs.Planned.{subscriptions_of}
 use Rattle.pm_notice.specs.StandFor.{cursors_of}
 use Rattle.pm_state.proofs.subscribing.cursors.Given as goal

@@ -1,6 +1,5 @@
 use Rattle.std.proofs.Common.{refl, sym, ◌∙◌, subst}
 use Rattle.pm_base.specs.Moment.{IsMoment}
-use Rattle.pm_engine.specs.Bears.{Carries}
 use Rattle.pm_top.proofs.AskingLemmas.{asked-at, answered, cut-off, refused-moment}
 use Rattle.pm_top.proofs.asking.answer.Goals as goal
 

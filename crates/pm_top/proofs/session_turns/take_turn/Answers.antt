@@ -1,7 +1,8 @@
-use Rattle.std.proofs.Common.{◌≡◌, ◌+◌, ◌<◌, ℕ, Err, ap, ◌∙◌, subst, refl, arith}
+use Rattle.std.proofs.Common.{◌≡◌, ◌<◌, Err, ap, ◌∙◌, subst, refl, arith}
 use Rattle.pm_outside.specs.Feed.{left_to}
 use Rattle.pm_http.specs.Stream.{IsNext, IsPlaced}
 use Rattle.pm_http.specs.declared.next.Next.TheVariants as next
+use Rattle.pm_top.specs.Session.{mail_of}
 use Rattle.pm_top.proofs.SessionLemmas.{takes, unsent, quits, tells, framed, placed-at, if-none}
 use Rattle.pm_top.proofs.session_turns.take_turn.Goals as goal
 
@@ -25,7 +26,9 @@ returns-in-Ok-Framing-clause-turn g c = λ run carries.
     let at : c.in-Ok-Framing.offset ≡ c.args.feed.now.given = subst (IsPlaced c.args.feed.now.given) c.in-Ok-Framing.field-0-is c.in-Ok-Framing.ensures.placed in
     framed g.D.Disk.IsTold g.K.Sink.IsTold g.S.Source.IsTold _ c.args.start c.args.feed.now.given
     (left_to c.args.feed.now (g.S.Source.left c.args.input.now)) (left_to c.next_request.new.feed (g.S.Source.left c.next_request.new.source))
-    (g.K.Sink.written c.args.output.now) (g.K.Sink.written c.refuse_framing.new.output) _ c.args.engine.now (g.D.Disk.told c.args.disk.now) run
+    (g.K.Sink.written c.args.output.now) (g.K.Sink.written c.refuse_framing.new.output)
+    (mail_of g.P.Courier.IsTold (g.P.Courier.posts c.args.courier.now) (g.P.Courier.posts c.args.courier.now) (g.P.Courier.faults c.args.courier.now)
+    (g.P.Courier.faults c.args.courier.now)) c.args.engine.now (g.D.Disk.told c.args.disk.now) run
     c.in-Ok-Framing.code c.in-Ok-Framing.offset c.saturating_sub-offset.result c.refuse_framing.result
     (unsent g.P.Courier.IsTold (g.P.Courier.posts c.args.courier.now) (g.P.Courier.faults c.args.courier.now)) refl c.requires.usable carries
     (tells g.S.Source.IsTold _ _ _ c.in-Ok-Framing.field-0 (next.Framing c.in-Ok-Framing.code c.in-Ok-Framing.offset) c.in-Ok-Framing.field-0-is c.in-Ok-Framing.ensures.next c.in-Ok-Framing.ensures.within)

@@ -1,5 +1,4 @@
 use Rattle.std.proofs.Common.{◌≡◌, length, refl, sym, subst}
-use Rattle.pm_inventory.specs.Inventory.{InventoryState}
 use Rattle.pm_history.specs.History.{History}
 use Rattle.pm_notice.specs.Planned.{subscriptions_of}
 use Rattle.pm_notice.specs.StandFor.{cursors_of}

@@ -1,4 +1,4 @@
-use Rattle.std.proofs.Common.{◌≡◌, List, ℕ, map, sym, subst, ◌∙◌}
+use Rattle.std.proofs.Common.{ℕ, map, sym, subst, ◌∙◌}
 use Rattle.pm_base.specs.Moment.{tick_of}
 use Rattle.pm_history.specs.declared.entry.Side.TheVariants.{Job}
 use Rattle.pm_history.specs.declared.entry.Entry.TheVariants.{Now}
@@ -7,7 +7,6 @@ use Rattle.pm_history.specs.History.{◌▷◌, last_moment}
 use Rattle.pm_asked.specs.Asked.{terms_of}
 use Rattle.pm_close.specs.DueReports.{AreFiles, ended_by}
 use Rattle.pm_close.specs.MonitorPlans.{AreCrossings}
-use Rattle.pm_close.specs.declared.open_monitors_tick.EndCrossings.{EndCrossings}
 use Rattle.pm_ready.specs.Files.{AreFilesOf, file_of}
 use Rattle.pm_notify.specs.Kept.{AddsNotices}
 use Rattle.pm_state.proofs.ClosingLemmas.{all-keep}

@@ -1,5 +1,5 @@
 use Rattle.std.proofs.Common.{◌≡◌, true, sym, subst}
-use Rattle.pm_history.specs.History.{History, grown}
+use Rattle.pm_history.specs.History.{History}
 use Rattle.pm_notice.specs.Planned.{subscriptions_of}
 use Rattle.pm_notice.specs.Round.{are_within}
 use Rattle.pm_notice.specs.StandFor.{StandFor, cursors_of}
