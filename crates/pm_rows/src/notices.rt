@@ -88,3 +88,52 @@ fn a_subscription_begins_at_its_cursor(rt: HostRuntime) -> Result<(), Fail> {
     assert_eq!(rt; courier.count(), 0);
     Ok(())
 }
+
+// The values of six minutes, one each, and a look after them.
+fn sampled(alloc: Global) -> Result<String, Fail> {
+    let mut requests = String::new(alloc);
+    for (moment, value) in [
+        (1_699_999_200, 70),
+        (1_699_999_260, 86),
+        (1_699_999_320, 84),
+        (1_699_999_380, 88),
+        (1_699_999_440, 75),
+        (1_699_999_500, 85),
+    ] {
+        let moment = format!(in alloc; "{moment}")?;
+        let line = format!(in alloc; "c7 RRC.ConnMax {value}")?;
+        let batch = asked(alloc, "POST /events", moment.as_str(), line.as_str())?;
+        requests.push_str(batch.as_str())?;
+    }
+    requests.push_str("GET /jobs/none HTTP/1.1\r\nPm-Moment: 1699999560\r\n\r\n")?;
+    Ok(requests)
+}
+
+#[test]
+fn crossings_are_posted_in_their_order(rt: HostRuntime) -> Result<(), Fail> {
+    let alloc = rt.alloc();
+    let monitor = asked(
+        alloc,
+        "PUT /monitors/m1",
+        "1699999190",
+        "{\"monitorGranularityPeriod\":60,\"objectInstances\":[\"c7\"],\"thresholdInfoList\":[{\"hysteresis\":5,\"performanceMetrics\":[\"RRC.ConnMax\"],\"thresholdDirection\":\"UP_AND_DOWN\",\"thresholdValue\":80}]}",
+    )?;
+    let subscribed = asked(alloc, "PUT /subscriptions/s1", "1699999190", CONSUMER)?;
+    let samples = sampled(alloc)?;
+    let requests = format!(in alloc; "{monitor}{subscribed}{samples}")?;
+    let courier = posted(&rt, alloc, requests.as_str(), &[], "{\"code\":\"J10\"}")?;
+    let mut place = 0;
+    for (value, direction) in [(86, "UP"), (75, "DOWN"), (85, "UP")] {
+        let told = format!(in alloc;
+            "\"observedValue\":{value},\"performanceMetric\":\"RRC.ConnMax\",\"thresholdDirection\":\"{direction}\""
+        )?;
+        if place >= courier.count() {
+            return Err("too few posts")?;
+        }
+        let text = str::from_utf8(courier.at(place).body)?;
+        assert!(rt; text.contains(told.as_str()), "{text}");
+        place += 1;
+    }
+    assert_eq!(rt; courier.count(), 3);
+    Ok(())
+}
