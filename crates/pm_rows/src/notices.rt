@@ -1,7 +1,7 @@
 //! Notices: from subscriptions to posts, by `run` over a courier in memory.
 
 use crate::runs::asked;
-use crate::tally::words;
+use crate::tally::{no_link, words};
 use pm_disk::MemDisk;
 use pm_outside::{MemCourier, MemSink, MemSource};
 use pm_top::{Status, pmd};
@@ -34,7 +34,15 @@ fn posted(
     let mut courier = MemCourier::new(alloc, 8, ROOM, fails)?;
     let run = words(alloc, &["run", "--boot", "1699999100"])?;
     assert_eq!(rt;
-        pmd(alloc, &run, &mut source, &mut sink, &mut disk, &mut courier),
+        pmd(
+            alloc,
+            &run,
+            &mut source,
+            &mut sink,
+            &mut disk,
+            &mut courier,
+            &mut no_link(alloc)?
+        ),
         Status::Done
     );
     assert!(rt; sink.written().ends_with(replies.as_bytes()));

@@ -1,7 +1,6 @@
 //! Requests that are refused, by `run` over a disk in memory.
 
 use crate::runs::{asked, written_by};
-use crate::tally::spelled;
 use std::alloc::Global;
 use std::process::Abort;
 use std::test::Fail;
@@ -85,8 +84,7 @@ fn a_job_is_refused_by_the_first_rule_that_it_breaks(rt: HostRuntime) -> Result<
 #[test]
 fn a_batch_is_refused_at_its_last_line(rt: HostRuntime) -> Result<(), Fail> {
     let alloc = rt.alloc();
-    let line = spelled(alloc, "c7 Att 1\n")?;
-    let lines = line.as_str().repeat(alloc, 65_535)?;
+    let lines = "c7 Att 1\n".repeat(alloc, 65_535)?;
     let body = format!(in alloc; "{lines}c7 Att")?;
     let batch = asked(alloc, "POST /events", "1699999260", body.as_str())?;
     is_refused(

@@ -1,6 +1,6 @@
 //! `run`: from an inventory and requests to replies, over a disk in memory.
 
-use crate::tally::{spelled, words};
+use crate::tally::{no_link, spelled, words};
 use pm_base::Code;
 use pm_disk::{Area, MemDisk};
 use pm_outside::{MemCourier, MemSink, MemSource};
@@ -33,7 +33,15 @@ pub fn written_by(rt: &impl Abort, alloc: Global, requests: &str) -> Result<Vec<
     let mut courier = MemCourier::new(alloc, 0, 0, &[])?;
     let run = words(alloc, &["run", "--boot", "1699999100"])?;
     assert_eq!(rt;
-        pmd(alloc, &run, &mut source, &mut sink, &mut disk, &mut courier),
+        pmd(
+            alloc,
+            &run,
+            &mut source,
+            &mut sink,
+            &mut disk,
+            &mut courier,
+            &mut no_link(alloc)?
+        ),
         Status::Done,
         "at {requests:?}"
     );
@@ -55,7 +63,15 @@ fn ends(
     let mut courier = MemCourier::new(alloc, 0, 0, &[])?;
     let run = words(alloc, &["run", "--boot", "1699999100"])?;
     assert_eq!(rt;
-        pmd(alloc, &run, &mut source, &mut sink, &mut disk, &mut courier),
+        pmd(
+            alloc,
+            &run,
+            &mut source,
+            &mut sink,
+            &mut disk,
+            &mut courier,
+            &mut no_link(alloc)?
+        ),
         status,
         "at {requests:?}"
     );
@@ -153,7 +169,15 @@ fn each_change_that_is_replied_to_is_stored(rt: HostRuntime) -> Result<(), Fail>
         let mut sink = MemSink::new(alloc, ROOM, &[])?;
         let mut disk = MemDisk::new(alloc, ROOM, &[call])?;
         let mut courier = MemCourier::new(alloc, 0, 0, &[])?;
-        let status = pmd(alloc, &run, &mut source, &mut sink, &mut disk, &mut courier);
+        let status = pmd(
+            alloc,
+            &run,
+            &mut source,
+            &mut sink,
+            &mut disk,
+            &mut courier,
+            &mut no_link(alloc)?,
+        );
         let items = count_items(disk.bytes(Area::First));
         let replies = count_successes(sink.written());
         if status == Status::Done {

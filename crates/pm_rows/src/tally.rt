@@ -3,7 +3,7 @@ ghost use Rattle.std.specs.Prelude.{List, [], ◌≤◌};
 
 use pm_base::Code;
 use pm_disk::MemDisk;
-use pm_outside::{Failed, Feed, Line, MemCourier, MemSink, MemSource, Source};
+use pm_outside::{Failed, Feed, Line, MemCourier, MemLink, MemSink, MemSource, Source};
 use pm_tally::{PlainTally, plain_tally};
 use pm_top::{Status, pmd};
 use std::alloc::{AllocError, Global};
@@ -31,6 +31,11 @@ pub fn words(alloc: Global, from: &[&str]) -> Result<Vec<String>, AllocError> {
         words.push(String::from_str(alloc, word)?)?;
     }
     Ok(words)
+}
+
+/// A link that has no reply.
+pub fn no_link(alloc: Global) -> Result<MemLink, AllocError> {
+    MemLink::new(alloc, Vec::new(alloc), &[])
 }
 
 /// A source that gives at most so many bytes a read.
@@ -104,7 +109,8 @@ fn the_rows_are_tallied_as_by_hand(rt: HostRuntime) -> Result<(), Fail> {
                 &mut source,
                 &mut sink,
                 &mut disk,
-                &mut courier
+                &mut courier,
+                &mut no_link(alloc)?
             ),
             status,
             "at {input:?}"
@@ -117,7 +123,7 @@ fn the_rows_are_tallied_as_by_hand(rt: HostRuntime) -> Result<(), Fail> {
 #[test]
 fn other_words_than_those_of_a_command_are_refused(rt: HostRuntime) -> Result<(), Fail> {
     let alloc = rt.alloc();
-    let rows: [&[&str]; 10] = [
+    let rows: [&[&str]; 14] = [
         &[],
         &["tally", "x"],
         &["x"],
@@ -128,6 +134,10 @@ fn other_words_than_those_of_a_command_are_refused(rt: HostRuntime) -> Result<()
         &["run", "--boot=1", "--boot=1"],
         &["run", "--workers=17", "--boot=1"],
         &["run", "--", "--boot=1"],
+        &["collect"],
+        &["collect", "--port=0"],
+        &["collect", "--port", "65536"],
+        &["collect", "--port=1", "x"],
     ];
     for row in rows {
         let mut source = MemSource::new(alloc, b"end\n", &[])?;
@@ -142,7 +152,8 @@ fn other_words_than_those_of_a_command_are_refused(rt: HostRuntime) -> Result<()
                 &mut source,
                 &mut sink,
                 &mut disk,
-                &mut courier
+                &mut courier,
+                &mut no_link(alloc)?
             ),
             Status::Usage
         );
@@ -172,7 +183,8 @@ pub fn compare(
                 &mut source,
                 &mut sink,
                 &mut disk,
-                &mut courier
+                &mut courier,
+                &mut no_link(alloc)?
             ),
             Status::from(plain.end),
             "row {at} by {most}"
@@ -253,7 +265,8 @@ fn faults_end_a_tally_after_the_lines_of_ended_ticks(rt: HostRuntime) -> Result<
             &mut source,
             &mut sink,
             &mut disk,
-            &mut courier
+            &mut courier,
+            &mut no_link(alloc)?
         ),
         Status::ReadFault
     );
@@ -271,7 +284,8 @@ fn faults_end_a_tally_after_the_lines_of_ended_ticks(rt: HostRuntime) -> Result<
             &mut source,
             &mut sink,
             &mut disk,
-            &mut courier
+            &mut courier,
+            &mut no_link(alloc)?
         ),
         Status::WriteFault
     );

@@ -7,3 +7,4 @@ pub mod Session
 pub mod SessionSteps
 pub mod SessionLaw
 pub mod Run
+pub mod Collect

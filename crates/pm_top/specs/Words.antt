@@ -1,10 +1,10 @@
--- The words of the command line: `tally`, or `run --boot M [--workers W]` (this project's own).
-use Rattle.std.specs.Prelude.{ℕ, ◌≤◌, ◌&&◌, Bool, List, [], ◌∷◌, ◌++◌, length, take, drop, nat_le, codes, if◌then◌else◌, Option, Some, None}
+-- The words of the command line: `tally`, `run --boot M [--workers W]`, or `collect --port P` (this project's own).
+use Rattle.std.specs.Prelude.{ℕ, ◌≡◌, ◌≤◌, ◌&&◌, Bool, List, [], ◌∷◌, ◌++◌, length, take, drop, nat_le, codes, if◌then◌else◌, Option, Some, None}
 use Rattle.std.specs.Str.{bytes_eq}
 use Rattle.pm_base.specs.Moment.{IsMoment}
 use Rattle.pm_base.specs.Number.{is_number, is_moment, number_of}
 use Rattle.pm_top.specs.declared.words.Command.{Command}
-use Rattle.pm_top.specs.declared.words.Command.TheVariants.{Tally, Run}
+use Rattle.pm_top.specs.declared.words.Command.TheVariants.{Tally, Run, Collect}
 
 -- A value, and the words after it.
 pub record Valued : Type 0 where
@@ -68,11 +68,26 @@ abbrev pub tally_of : List (List ℕ) → Option Command
 tally_of [] = Some Tally
 tally_of (word ∷ words) = None
 
+-- A port is 1 to 65535.
+abbrev pub is_port : List ℕ → Bool
+is_port bytes = is_number 12 bytes && (nat_le 1 (number_of bytes) && nat_le (number_of bytes) 65535)
+
+abbrev pub collect_at : List ℕ → Option Command
+collect_at port = if is_port port then Some (Collect (number_of port)) else None
+
+abbrev pub collect_if : Option (List ℕ) → Option Command
+collect_if None = None
+collect_if (Some port) = collect_at port
+
+abbrev pub collect_of : List (List ℕ) → Option Command
+collect_of words = collect_if (if_last (value_at (codes "--port") words))
+
 -- What the words ask for. None where they are those of no command.
 abbrev pub command_of : List (List ℕ) → Option Command
 command_of [] = None
 command_of (word ∷ words) =
     if bytes_eq word (codes "run") then run_of words
+    else if bytes_eq word (codes "collect") then collect_of words
     else if bytes_eq word (codes "tally") then tally_of words
     else None
 
@@ -80,3 +95,4 @@ command_of (word ∷ words) =
 abbrev pub IsAsked : Command → Type 0
 IsAsked Tally = Unit {0}
 IsAsked (Run boot workers) = IsMoment boot × (1 ≤ workers) × (workers ≤ 16)
+IsAsked (Collect port) = (1 ≤ port) × (port ≤ 65535)

@@ -2,6 +2,7 @@
 #![tactic(auto)]
 
 mod asking;
+mod collect_status;
 mod law;
 mod run_command;
 mod run_status;

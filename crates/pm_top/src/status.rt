@@ -39,6 +39,15 @@ pub enum Status {
         /// The length that it would need.
         need: u64,
     },
+    /// The link to a peer failed.
+    LinkFault,
+    /// A reply of a peer is refused.
+    BadPeer {
+        /// The number of the exchange, from 1.
+        place: u64,
+        /// By which rule.
+        code: Code,
+    },
     /// A line of the inventory is refused or missing.
     BadInventory {
         /// The number of the line, from 1.
@@ -64,6 +73,8 @@ impl Status {
             Status::StoreFault => 5,
             Status::Foreign | Status::Garbled { .. } => 6,
             Status::StoreFull { .. } => 8,
+            Status::LinkFault => 9,
+            Status::BadPeer { .. } => 10,
             Status::BadInventory { .. } => 11,
             Status::Memory => 12,
         }

@@ -25,6 +25,11 @@ impl fmt::Display for Status {
             Status::StoreFull { length, need } => {
                 write!(f, "status {exit} StoreFull {length} {need}")
             }
+            Status::LinkFault => write!(f, "status {exit} LinkFault"),
+            Status::BadPeer { place, code } => {
+                let code = code.name();
+                write!(f, "status {exit} BadPeer at {place} {code}")
+            }
             Status::BadInventory { line, code } => {
                 let code = code.name();
                 write!(f, "status {exit} BadInventory at {line} {code}")

@@ -1,6 +1,6 @@
-//! The words of the command line: `tally`, or `run --boot M [--workers W]`.
+//! The words of the command line: `tally`, `run --boot M [--workers W]`, or `collect --port P`.
 ghost use Rattle.std.specs.Prelude.{◌≡◌, ◌++◌, ◌∷◌, [], map, codes, string_bytes, IfSome, MatchOption, None, Some};
-ghost use Rattle.pm_top.specs.Words.{value_at, if_last, run_of, command_of, tally_of, IsAsked};
+ghost use Rattle.pm_top.specs.Words.{value_at, if_last, run_of, collect_of, command_of, tally_of, IsAsked};
 ghost use Rattle.pm_top.specs.Words as spoken;
 
 use pm_base::{read_moment, read_number};
@@ -12,6 +12,8 @@ pub enum Command {
     Tally,
     /// One session over the input. The store begins with a Boot at this moment, in seconds since 1970-01-01 UTC. There are 1 to 16 workers.
     Run { boot: u64, workers: u8 },
+    /// One run of the collector, from the peer on this port, which isn't 0.
+    Collect { port: u16 },
 }
 
 // The value of an option, and the words after it.
@@ -31,6 +33,9 @@ pub fn read_command(words: &[String]) -> Option<Command>
     };
     if word.as_str() == "run" {
         return read_run(rest);
+    }
+    if word.as_str() == "collect" {
+        return read_collect(rest);
     }
     if word.as_str() == "tally" {
         return tally_alone(rest);
@@ -101,6 +106,26 @@ fn run_with(boot: &[u8], workers: &[u8]) -> Option<Command>
             boot,
             workers: workers as u8,
         }),
+        _ => None,
+    }
+}
+
+fn read_collect(words: &[String]) -> Option<Command>
+    ensures command { result ≡ collect_of (map string_bytes words.now) }
+    ensures ranges { IfSome result IsAsked }
+{
+    match last_option(words, "--port", b"--port=") {
+        Some(port) => collect_at(port),
+        None => None,
+    }
+}
+
+fn collect_at(port: &[u8]) -> Option<Command>
+    ensures command { result ≡ spoken.collect_at port.now }
+    ensures ranges { IfSome result IsAsked }
+{
+    match read_number(port, 12) {
+        Some(port @ 1..=65535) => Some(Command::Collect { port: port as u16 }),
         _ => None,
     }
 }

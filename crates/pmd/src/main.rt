@@ -1,4 +1,4 @@
-//! `pmd`, the producer of performance measurements of one managed element.
+//! `pmd`, the producer of performance measurements of one managed element, and a collector of its report files.
 #![tactic(auto)]
 
 mod store_file;
@@ -6,6 +6,7 @@ mod streams;
 mod words;
 
 use pm_courier::HttpCourier;
+use pm_link::TcpLink;
 use pm_top::{Status, pmd};
 use std::io;
 use std::process::ExitCode;
@@ -15,6 +16,7 @@ use words::read_words;
 
 fn main(rt: HostRuntime) -> ExitCode {
     let mut disk = StoreFile::new(&rt);
+    let mut link = TcpLink::new(&rt);
     let status = match read_words(&rt) {
         Ok(words) => pmd(
             rt.alloc(),
@@ -23,6 +25,7 @@ fn main(rt: HostRuntime) -> ExitCode {
             &mut Writing::new(io::writer(&rt)),
             &mut disk,
             &mut HttpCourier::new(&rt),
+            &mut link,
         ),
         Err(status) => status,
     };
