@@ -1,0 +1,15 @@
+pub mod Ratio
+pub mod Ratios
+pub mod Key
+pub mod Rows
+pub mod Asked
+pub mod Totals
+pub mod Maps
+pub mod Sums
+pub mod Output
+pub mod Lines
+pub mod Input
+pub mod LineEnds
+pub mod Faults
+pub mod Run
+pub mod Steps

@@ -1,0 +1,13 @@
+pub mod TwinLemmas
+pub mod EntryLemmas
+pub mod RowLemmas
+pub mod SmallLemmas
+pub mod KeyLemmas
+pub mod CurrentLemmas
+pub mod LengthLemmas
+pub mod FoundLemmas
+pub mod AlikeLemmas
+pub mod StandingLemmas
+pub mod MakingLemmas
+pub mod FittingLemmas
+pub mod LawLemmas
