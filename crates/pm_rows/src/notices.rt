@@ -145,3 +145,19 @@ fn crossings_are_posted_in_their_order(rt: HostRuntime) -> Result<(), Fail> {
     assert_eq!(rt; courier.count(), 3);
     Ok(())
 }
+
+#[test]
+fn a_ninth_subscription_is_refused(rt: HostRuntime) -> Result<(), Fail> {
+    let alloc = rt.alloc();
+    let mut requests = String::new(alloc);
+    for number in 1..10 {
+        let line = format!(in alloc; "PUT /subscriptions/s{number}")?;
+        let subscribed = asked(alloc, line.as_str(), "1699999190", CONSUMER)?;
+        requests.push_str(subscribed.as_str())?;
+    }
+    let refusal =
+        "HTTP/1.1 409 Conflict\r\nContent-Type: application/json\r\nContent-Length: 13\r\nPm-Moment: 1699999190\r\n\r\n{\"code\":\"P1\"}";
+    let courier = posted(&rt, alloc, requests.as_str(), &[], refusal)?;
+    assert_eq!(rt; courier.count(), 0);
+    Ok(())
+}
