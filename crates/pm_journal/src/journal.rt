@@ -112,6 +112,13 @@ impl Journal {
         }
     }
 
+    /// The offset of the gate that it has come to.
+    pub fn gate(&self) -> u64
+        ensures { result ≡ gate_of self.now }
+    {
+        self.at
+    }
+
     // Cuts what follows the closed gate.
     fn end<D: Disk>(&mut self, disk: &mut D) -> Result<Option<Item>, JournalError>
         requires usable { IsUsable self.old }

@@ -118,6 +118,13 @@ impl Ledger {
         }
     }
 
+    /// The offset of the gate that it has come to.
+    pub fn gate(&self) -> u64
+        ensures { result ≡ gate_of self.now }
+    {
+        self.journal.gate()
+    }
+
     // The bytes of the next item.
     fn find<D: Disk>(&mut self, disk: &mut D) -> Result<Option<Item>, OpenError>
         requires usable { IsUsable self.old }

@@ -20,6 +20,10 @@ is_path_char c = is_ascii_alphanumeric c || (c == 47 || (c == 46 || (c == 95 || 
 abbrev pub consumer_path : List ℕ → Bool
 consumer_path s = nat_le 1 (length s) && nat_le (length s) 128 && list_all is_path_char s && slice_index s 0 == 47
 
+-- Notices may go to a path at a port.
+abbrev pub is_consumer : ℕ → List ℕ → Bool
+is_consumer port path = nat_le 1 port && consumer_path path
+
 -- A port: 1 to 65535.
 abbrev pub port_form : Form ℕ
 port_form = tested WrongNumber (λ n. nat_le 1 n) (whole 65535)

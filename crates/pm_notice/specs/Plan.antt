@@ -7,7 +7,7 @@ use Rattle.pm_base.specs.declared.code.Code.{Code}
 use Rattle.pm_base.specs.declared.code.Code.TheVariants as code
 use Rattle.pm_form.specs.Form.{Read, text_says}
 use Rattle.pm_form.specs.Names.{job_id}
-use Rattle.pm_notice.specs.Consumer.{Consumer, consumer_form}
+use Rattle.pm_notice.specs.Consumer.{Consumer, consumer_form, is_consumer}
 use Rattle.pm_notice.specs.declared.subscription.Subscription.{Subscription}
 use Rattle.pm_notice.specs.declared.subscription.SubPlan.{SubPlan}
 use Rattle.pm_notice.specs.declared.subscription.SubPlan.TheVariants.{New, Same, Deleted}
@@ -56,6 +56,24 @@ plan_of_body subs id cursor (Err e) = Err P3
 abbrev pub plan_to_make : List Subscription → List ℕ → List ℕ → ℕ → Result SubPlan SubError
 plan_to_make subs id body cursor =
     if job_id id then plan_of_body subs id cursor (text_says consumer_form body) else Err P3
+
+-- A new subscription: fewer than eight exist.
+abbrev pub plan_new : List Subscription → List ℕ → ℕ → List ℕ → ℕ → Result SubPlan SubError
+plan_new subs id port path cursor =
+    if nat_lt (length subs) MOST_SUBSCRIPTIONS
+    then Ok (New (record { id = id; port = port; path = path; cursor = cursor }))
+    else Err P1
+
+-- One that a store tells: what it says is right, and none of the id exists.
+abbrev pub plan_anew : List Subscription → List ℕ → ℕ → List ℕ → ℕ → Option Subscription → Result SubPlan SubError
+plan_anew subs id port path cursor (Some s) = Err P4
+plan_anew subs id port path cursor None = plan_new subs id port path cursor
+
+abbrev pub plan_of_stored : List Subscription → List ℕ → ℕ → List ℕ → ℕ → Result SubPlan SubError
+plan_of_stored subs id port path cursor =
+    if job_id id && is_consumer port path
+    then plan_anew subs id port path cursor (subscription_under id subs)
+    else Err P3
 
 abbrev pub plan_at : Option ℕ → Result SubPlan SubError
 plan_at (Some place) = Ok (Deleted place)

@@ -5,7 +5,7 @@ ghost use Rattle.serde_json.specs.View.{view};
 ghost use Rattle.pm_form.specs.Form.{text_says};
 ghost use Rattle.pm_form.specs.Says.{Says};
 ghost use Rattle.pm_form.specs.Values.{text};
-ghost use Rattle.pm_notice.specs.Consumer.{is_path_char, consumer_path, port_form, consumer_form};
+ghost use Rattle.pm_notice.specs.Consumer.{is_path_char, consumer_path, port_form, consumer_form, is_consumer};
 ghost use Rattle.pm_notice.specs.Told.{consumer_content};
 ghost use Rattle.std.specs.Prelude.{ℕ, List};
 
@@ -38,6 +38,13 @@ fn is_consumer_path(bytes: &[u8]) -> bool
     ensures { result ≡ consumer_path bytes.now }
 {
     1 <= bytes.len() && bytes.len() <= PATH_BYTES && has_path_alphabet(bytes) && bytes[0] == b'/'
+}
+
+/// Whether notices may go to a path at a port.
+pub(crate) fn is_consumer(port: u16, path: &[u8]) -> bool
+    ensures { result ≡ is_consumer port path.now }
+{
+    1 <= port && is_consumer_path(path)
 }
 
 fn path_in(alloc: Global, value: &Value) -> Result<Text, ReadError>

@@ -1,5 +1,5 @@
 //! The subscriptions that exist, in byte order of id.
-ghost use Rattle.std.specs.Prelude.{◌≡◌, ◌≤◌, ◌<◌, ◌↔◌, ℕ, Bool, List, [], length, map, find, position, vec_len, vec_capacity, Some, Ok, IfOk, IfErr, OnErr, Err, true, unwrap_or, option_map, slice_get};
+ghost use Rattle.std.specs.Prelude.{◌≡◌, ◌≤◌, ◌<◌, ◌↔◌, ℕ, Bool, List, [], length, map, find, position, vec_len, vec_capacity, Some, None, Ok, IfOk, IfErr, OnErr, Err, true, unwrap_or, option_map, slice_get};
 ghost use Rattle.pm_form.specs.Names.{job_id};
 ghost use Rattle.pm_notice.specs.Order.{comes_before};
 ghost use Rattle.pm_notice.specs.Told.{consumer_content};
@@ -7,7 +7,7 @@ ghost use Rattle.pm_notice.specs.Plan.{goes_to};
 ghost use Rattle.pm_history.specs.History.{History, Start};
 ghost use Rattle.pm_notice.specs.declared.subscription.Subscription.{Subscription};
 
-use crate::consumer::{ReadConsumer, read_consumer};
+use crate::consumer::{ReadConsumer, is_consumer, read_consumer};
 use crate::{Outcome, SubAsk, SubError, SubPlan, Subscription};
 use pm_base::Text;
 use pm_form::{ReadError, is_job_id};
@@ -32,7 +32,7 @@ fn is_less(id: &[u8], other: &[u8]) -> bool
 }
 
 impl Subscriptions {
-    ghost use Rattle.pm_notice.specs.Plan.{has_id, subscription_under, enacted, outcome_of, with_subscription, plan_beside, plan_to_make, plan_to_remove};
+    ghost use Rattle.pm_notice.specs.Plan.{has_id, subscription_under, enacted, outcome_of, with_subscription, plan_beside, plan_to_make, plan_to_remove, plan_new, plan_of_stored};
     ghost use Rattle.pm_notice.specs.Planned.{subscriptions_of, IsPlanOf, Answers};
     ghost use Rattle.pm_notice.specs.Asked.{plan_of, MayWantMemory};
     ghost use Rattle.pm_notice.specs.StandFor.{StandFor, cursors_of, with_cursor, planned};
@@ -100,6 +100,32 @@ impl Subscriptions {
         }
     }
 
+    // A new subscription, where none of the id exists.
+    fn plan_new(
+        &mut self,
+        id: &[u8],
+        port: u16,
+        path: Text,
+        cursor: u64,
+    ) -> Result<SubPlan, SubError>
+        requires { subscription_under id.now (subscriptions_of self.old) ≡ None }
+        ensures answer { Answers result (plan_new (subscriptions_of self.old) id.now port path cursor) }
+        ensures fits { IfOk result (IsPlanOf self.new) }
+        ensures stays { subscriptions_of self.new ≡ subscriptions_of self.old }
+    {
+        if self.items.len() >= MOST {
+            return Err(SubError::P1);
+        }
+        self.items.reserve(1)?;
+        let made = Subscription {
+            id: Text::from_slice(self.alloc, id)?,
+            port,
+            path,
+            cursor,
+        };
+        Ok(SubPlan::New { made })
+    }
+
     // A subscription of a consumer, whose id is right.
     fn plan_consumer(
         &mut self,
@@ -119,17 +145,7 @@ impl Subscriptions {
                 Err(SubError::P4)
             };
         }
-        if self.items.len() >= MOST {
-            return Err(SubError::P1);
-        }
-        self.items.reserve(1)?;
-        let made = Subscription {
-            id: Text::from_slice(self.alloc, id)?,
-            port: consumer.port,
-            path: consumer.path,
-            cursor,
-        };
-        Ok(SubPlan::New { made })
+        self.plan_new(id, consumer.port, consumer.path, cursor)
     }
 
     fn plan_to_make(&mut self, id: &[u8], body: &[u8], cursor: u64) -> Result<SubPlan, SubError>
@@ -171,6 +187,28 @@ impl Subscriptions {
             SubAsk::Make { id, body, cursor } => self.plan_to_make(id, body, cursor),
             SubAsk::Remove { id } => self.plan_to_remove(id),
         }
+    }
+
+    /// What a subscription does that a store tells, where its cursor is this. It takes the room that this needs.
+    pub fn plan_stored(
+        &mut self,
+        id: &[u8],
+        port: u16,
+        path: &[u8],
+        cursor: u64,
+    ) -> Result<SubPlan, SubError>
+        ensures answer { Answers result (plan_of_stored (subscriptions_of self.old) id.now port path.now cursor) }
+        ensures fits { IfOk result (IsPlanOf self.new) }
+        ensures stays { subscriptions_of self.new ≡ subscriptions_of self.old }
+    {
+        if !is_job_id(id) || !is_consumer(port, path) {
+            return Err(SubError::P3);
+        }
+        if self.under(id).is_some() {
+            return Err(SubError::P4);
+        }
+        let path = Text::from_slice(self.alloc, path)?;
+        self.plan_new(id, port, path, cursor)
     }
 
     fn insert(&mut self, made: Subscription)
