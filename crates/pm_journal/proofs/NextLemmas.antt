@@ -1,5 +1,5 @@
 -- The journal and its area after an item was handed out, and after the end of the list.
-use Rattle.std.proofs.Common.{◌≡◌, ◌≢◌, ◌⊎◌, inl, ℕ, ◌+◌, List, [], ◌∷◌, ◌++◌, length, take, drop, refl, sym, ◌∙◌, ap, subst, arith, append_assoc, length-append}
+use Rattle.std.proofs.Common.{◌≡◌, ◌≢◌, ◌⊎◌, inl, ℕ, ◌+◌, List, [], ◌∷◌, ◌++◌, length, take, drop, refl, sym, ◌∙◌, ap, subst, arith, append_assoc, length-append, Option, Some, None, Result, Ok, Err, IfOk, IsNone, IsSome}
 use Rattle.std.proofs.lemmas.List.{append-nil, take_at}
 use Rattle.pm_disk.specs.declared.area.Area.{Area}
 use Rattle.pm_disk.specs.Area.{AreaState, IsImage, clean}
@@ -7,6 +7,7 @@ use Rattle.pm_disk.specs.Moments.{Told, Throughout, of}
 use Rattle.pm_disk.proofs.MomentLemmas.{weaken}
 use Rattle.pm_journal.specs.declared.item.Item.{Item}
 use Rattle.pm_journal.specs.declared.journal.Journal.{Journal}
+use Rattle.pm_journal.specs.declared.error.JournalError.{JournalError}
 use Rattle.pm_journal.specs.declared.phase.Phase.TheVariants.{Ready}
 use Rattle.pm_journal.specs.Items.{blocks, prefix, IsItem, IsCutShort, EachFits, HasList, EndsAt}
 use Rattle.pm_journal.specs.Lists.{KeepsLists}
@@ -141,3 +142,9 @@ keeps_cutting area old new journal to given left at closed seen to_is run =
       );
       that = cutting.that;
     }) run
+
+-- Where nothing is handed out, whatever holds of what is handed out.
+pub none_on : (r : Result (Option Item) JournalError) (Is : Type 0) → IfOk r (λ next. IsNone next) → IfOk r (λ next. IsSome next → Is)
+none_on (Err e) Is none = tt
+none_on (Ok None) Is none = λ some. absurd some
+none_on (Ok (Some item)) Is none = absurd none

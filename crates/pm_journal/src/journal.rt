@@ -9,7 +9,7 @@
 //!
 //! An area of at most 9 bytes is fresh. `append` writes the length, the item and a closed gate after the closed gate, syncs,
 //! opens the gate, and syncs again. `next` cuts what follows the closed gate, so that nothing counts once it is opened.
-ghost use Rattle.std.specs.Prelude.{◌≡◌, ◌<◌, ◌≤◌, ◌+◌, ◌^◌, ◌++◌, [], ◌∷◌, List, ℕ, length, drop, IsNone, OnOk, IfOk, IfErr};
+ghost use Rattle.std.specs.Prelude.{◌≡◌, ◌<◌, ◌≤◌, ◌+◌, ◌^◌, ◌++◌, [], ◌∷◌, List, ℕ, length, drop, IsNone, IsSome, OnOk, IfOk, IfErr};
 ghost use Rattle.pm_outside.specs.Causes.{faults_after};
 ghost use Rattle.pm_disk.specs.Moments.{of, Throughout};
 ghost use Rattle.pm_journal.specs.Items.{with_item};
@@ -89,6 +89,7 @@ impl Journal {
         ensures tied { D.IsTold → OnOk result (IsTied self.new (of (D.told disk.new).now (area_of self.old))) }
         ensures usable { OnOk result (IsUsable self.new) }
         ensures ready { IfOk result (λ next. IsNone next → IsReady self.new) }
+        ensures on { IfOk result (λ next. IsSome next → gate_of self.old < gate_of self.new) }
         ensures place { (area_of self.new ≡ area_of self.old) × (limit_of self.new ≡ limit_of self.old) }
         ensures any_moment { D.IsTold → Throughout (KeepsLists (area_of self.old) (D.told disk.old).now) (D.told disk.old) (D.told disk.new) }
 
@@ -130,6 +131,7 @@ impl Journal {
         ensures tied { D.IsTold → OnOk result (IsTied self.new (of (D.told disk.new).now (area_of self.old))) }
         ensures usable { OnOk result (IsUsable self.new) }
         ensures ready { IfOk result (λ next. IsReady self.new) }
+        ensures none { IfOk result (λ next. IsNone next) }
         ensures place { (area_of self.new ≡ area_of self.old) × (limit_of self.new ≡ limit_of self.old) }
         ensures any_moment { D.IsTold → Throughout (KeepsLists (area_of self.old) (D.told disk.old).now) (D.told disk.old) (D.told disk.new) }
         ensures refused { IfErr result (λ e. (e ≡ JournalError.StoreFault) × IsSpent self.new) }

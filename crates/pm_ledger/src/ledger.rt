@@ -105,6 +105,7 @@ impl Ledger {
         ensures tied { D.IsTold → OnOk result (IsTied self.new (D.told disk.new).now) }
         ensures usable { OnOk result (IsUsable self.new) }
         ensures ready { IfOk result (λ next. IsNone next → IsReady self.new) }
+        ensures on { IfOk result (λ next. IsSome next → gate_of self.old < gate_of self.new) }
         ensures any_moment { D.IsTold → (inventory : InventoryState) (a b : History) → EachBetween inventory a b (D.told disk.old).now
             → Throughout (EachBetween inventory a b) (D.told disk.old) (D.told disk.new) }
 
@@ -135,6 +136,7 @@ impl Ledger {
         ensures tied { D.IsTold → OnOk result (IsTied self.new (D.told disk.new).now) }
         ensures usable { OnOk result (IsUsable self.new) }
         ensures ready { IfOk result (λ next. IsNone next → IsReady self.new) }
+        ensures on { IfOk result (λ next. IsSome next → gate_of self.old < gate_of self.new) }
         ensures any_moment { D.IsTold → (inventory : InventoryState) (a b : History) → EachBetween inventory a b (D.told disk.old).now
             → Throughout (EachBetween inventory a b) (D.told disk.old) (D.told disk.new) }
         ensures refused { IfErr result (RefusesNext D.IsTold self.old (D.told disk.old) (D.told disk.new)) }
