@@ -146,5 +146,5 @@ keeps_cutting area old new journal to given left at closed seen to_is run =
 -- Where nothing is handed out, whatever holds of what is handed out.
 pub none_on : (r : Result (Option Item) JournalError) (Is : Type 0) → IfOk r (λ next. IsNone next) → IfOk r (λ next. IsSome next → Is)
 none_on (Err e) Is none = tt
-none_on (Ok None) Is none = λ some. absurd some
-none_on (Ok (Some item)) Is none = absurd none
+none_on (Ok None) Is none = λ some. absurd (cc (some))
+none_on (Ok (Some item)) Is none = absurd (cc (none))
