@@ -1,5 +1,5 @@
 -- What the images of a disk hold while items are added, and while they are read.
-use Rattle.std.proofs.Common.{◌≡◌, ◌≤◌, ◌^◌, inl, inr, ℕ, List, [], ◌∷◌, ◌++◌, length, Option, Some, None, Result, Ok, Err, IfOk, IfErr, drop, refl, sym, ◌∙◌, ap, subst, arith}
+use Rattle.std.proofs.Common.{◌≡◌, ◌≤◌, ◌^◌, inl, inr, ℕ, List, [], ◌∷◌, ◌++◌, length, Option, Some, None, Result, Ok, Err, IfOk, IfErr, IfSome, drop, refl, sym, ◌∙◌, ap, subst, arith}
 use Rattle.std.proofs.lemmas.List.{append-nil, map-append}
 use Rattle.pm_disk.specs.declared.area.Area.{Area}
 use Rattle.pm_disk.specs.declared.area.Area.TheVariants.{First}
@@ -24,6 +24,7 @@ use Rattle.pm_journal.specs.Journal as journal
 use Rattle.pm_journal.specs.Lists.{HasEither, KeepsLists}
 use Rattle.pm_journal.proofs.ImageLemmas.{only_image}
 use Rattle.pm_store.specs.declared.item.Item1.{Item1}
+use Rattle.pm_store.specs.Item.{IsItem}
 use Rattle.pm_store.specs.Stored.{item_in}
 use Rattle.pm_ledger.specs.declared.error.OpenError.{OpenError}
 use Rattle.pm_ledger.specs.declared.error.OpenError.TheVariants.{StoreFault, Foreign, Garbled, Memory}
@@ -247,3 +248,9 @@ read_refuses IsTold item (Err (Garbled offset)) next old new told told' is tied 
     (garbled_at item old new told told' (tied tells) reads.1 (λ read left at.
     subst (λ (n : Option Item). Finds n old new told.now told'.now read left) is (found tells read left at)))
 read_refuses IsTold item (Err Memory) next old new told told' is tied reads found = tt
+
+-- What is read is an item.
+pub read_item_is : (offset : ℕ) (bytes : List ℕ) (r : Result (Option Item1) OpenError) → IsReading offset bytes r → IfOk r (λ next. IfSome next IsItem)
+read_item_is offset bytes (Err e) reading = tt
+read_item_is offset bytes (Ok None) reading = absurd reading
+read_item_is offset bytes (Ok (Some item)) reading = reading.fits

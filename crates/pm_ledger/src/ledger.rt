@@ -1,5 +1,5 @@
 //! A journal of stored items in the first area of a disk.
-ghost use Rattle.std.specs.Prelude.{◌≡◌, ◌≤◌, ◌<◌, ◌+◌, ◌++◌, [], ◌∷◌, List, ℕ, length, IsNone, IsSome, MatchOption, OnOk, IfOk, IfErr};
+ghost use Rattle.std.specs.Prelude.{◌≡◌, ◌≤◌, ◌<◌, ◌+◌, ◌++◌, [], ◌∷◌, List, ℕ, length, IsNone, IsSome, IfSome, MatchOption, OnOk, IfOk, IfErr};
 ghost use Rattle.pm_outside.specs.Causes.{faults_after};
 ghost use Rattle.pm_disk.specs.declared.area.Area.TheVariants.{First};
 ghost use Rattle.pm_disk.specs.Moments.{Throughout};
@@ -13,6 +13,7 @@ ghost use Rattle.pm_journal.specs.Lists.{KeepsArea};
 ghost use Rattle.pm_ledger.specs.declared.ledger.TheConstants.{MOST_BYTES};
 ghost use Rattle.pm_ledger.specs.Stored.{AddsItem};
 ghost use Rattle.pm_ledger.specs.Between.{EachBetween};
+ghost use Rattle.pm_store.specs.Item.{IsItem};
 
 use crate::reading::read_item;
 use crate::{AddError, OpenError};
@@ -106,6 +107,7 @@ impl Ledger {
         ensures usable { OnOk result (IsUsable self.new) }
         ensures ready { IfOk result (λ next. IsNone next → IsReady self.new) }
         ensures on { IfOk result (λ next. IsSome next → gate_of self.old < gate_of self.new) }
+        ensures item { IfOk result (λ next. IfSome next IsItem) }
         ensures any_moment { D.IsTold → (inventory : InventoryState) (a b : History) → EachBetween inventory a b (D.told disk.old).now
             → Throughout (EachBetween inventory a b) (D.told disk.old) (D.told disk.new) }
 
