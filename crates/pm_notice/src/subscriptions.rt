@@ -100,7 +100,7 @@ impl Subscriptions {
         }
     }
 
-    // A new subscription, where none of the id exists.
+    // A new subscription of a right id, where none of it exists.
     fn plan_new(
         &mut self,
         id: &[u8],
@@ -108,7 +108,8 @@ impl Subscriptions {
         path: Text,
         cursor: u64,
     ) -> Result<SubPlan, SubError>
-        requires { subscription_under id.now (subscriptions_of self.old) ≡ None }
+        requires named { job_id id.now ≡ true }
+        requires fresh { subscription_under id.now (subscriptions_of self.old) ≡ None }
         ensures answer { Answers result (plan_new (subscriptions_of self.old) id.now port path cursor) }
         ensures fits { IfOk result (IsPlanOf self.new) }
         ensures stays { subscriptions_of self.new ≡ subscriptions_of self.old }
